@@ -1,5 +1,5 @@
 -- What devices in memory show of themselves.
-use Rattle.std.specs.Prelude.{◌≡◌, ◌^◌, ◌++◌, ◌≤◌, ℕ, List, [], ◌∷◌, length, map, take, drop, sum, Result, Ok, Err}
+use Rattle.std.specs.Prelude.{◌≡◌, ◌++◌, ◌≤◌, ℕ, List, [], ◌∷◌, length, map, take, drop, sum, Result, Ok, Err}
 use Rattle.call_history.specs.Cause.{raised}
 use Rattle.call_history.specs.Calls.{CallCount}
 use Rattle.tcam_device.specs.declared.DeviceFault.{DeviceFault}
@@ -92,10 +92,16 @@ pub record Scarce : Type 0 where
   pub device : Tcam
   pub most : ℕ
 
--- the sizes of the tables in memory
-pub record IsMemory (src dst : List ℕ) : Type 0 where
-  pub src_size : length src ≡ 2 ^ 16
-  pub dst_size : length dst ≡ 2 ^ 16
+-- a memory, and how many writes have their room
+pub record RoomyState : Type 0 where
+  pub state : State
+  pub spare : ℕ
+
+-- and with words in flight
+pub record RoomyPipeline : Type 0 where
+  pub state : State
+  pub flight : Flight
+  pub spare : ℕ
 
 -- What is kept of the writes and drains of a device in memory: the events, and how many more have their room.
 pub record Logged : Type 0 where

@@ -1,5 +1,5 @@
 // The journal of a device in memory, with the drains among its writes.
-ghost use Rattle.std.specs.Prelude.{◌≡◌, ◌<◌, ◌≤◌, ◌+◌, ◌++◌, [], ◌∷◌, OnOk, OnErr};
+ghost use Rattle.std.specs.Prelude.{◌≡◌, ◌<◌, ◌≤◌, ◌+◌, ◌++◌, [], ◌∷◌, max, OnOk, OnErr};
 ghost use Rattle.tcam_device.specs.declared.Action.{Action};
 ghost use Rattle.tcam_device.specs.Flight.{writes_in};
 
@@ -55,6 +55,7 @@ impl Log {
     pub(crate) fn reserve(&mut self, n: u64) -> Result<(), AllocError>
         ensures enough { OnOk result (n ≤ self.new.spare) }
         ensures least { self.old.spare ≤ self.new.spare }
+        ensures most { self.new.spare ≤ max self.old.spare n }
         ensures spare_err { OnErr result (self.new.spare ≡ self.old.spare) }
         ensures events { self.new.events ≡ self.old.events }
     {

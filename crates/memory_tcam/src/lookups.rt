@@ -1,5 +1,5 @@
 // Slots and tables in memory, with the words of look-ups in flight.
-ghost use Rattle.std.specs.Prelude.{◌≡◌, ◌<◌, ◌≤◌, [], length, drop, slice_index, IfOk};
+ghost use Rattle.std.specs.Prelude.{◌≡◌, ◌<◌, ◌≤◌, ◌+◌, [], length, drop, slice_index, IfOk, OnOk};
 ghost use Rattle.slot_order.specs.Order as order;
 ghost use Rattle.tcam_device.specs.State.{IsInUse, apply, blank, lookup, table_of};
 ghost use Rattle.tcam_device.specs.Flight.{most_in_flight, with_word, search_answer};
@@ -21,26 +21,37 @@ pub(crate) struct Lookups {
 
 impl Model for Lookups {
     ghost use Rattle.std.specs.Prelude.{◌≡◌};
-    ghost use Rattle.tcam_device.specs.Flight.{Pipeline, most_in_flight};
+    ghost use Rattle.tcam_device.specs.Flight.{most_in_flight};
+    ghost use Rattle.memory_tcam.specs.Tcam.{RoomyPipeline};
 
-    ghost Value = { Pipeline };
+    ghost Value = { RoomyPipeline };
 
-    ghost view = { λ l. record { state = l.memory; flight = l.flight.items } };
+    ghost view = { λ l. record { state = l.memory.state; flight = l.flight.items; spare = l.memory.spare } };
 
     ghost invariant = { λ l. l.flight.capacity ≡ most_in_flight };
 }
 
 impl Lookups {
-    /// A blank memory of this many slots, and no word in flight.
+    /// A blank memory of this many slots, no word in flight, and room for no write.
     pub(crate) fn new(alloc: Global, slots: u32) -> Result<Lookups, AllocError>
         requires least { 0 < slots }
         requires most { slots ≤ 65536 }
-        ensures { IfOk result (λ lookups. lookups ≡ record { state = blank slots; flight = [] }) }
+        ensures { IfOk result (λ lookups. lookups ≡ record { state = blank slots; flight = []; spare = 0 }) }
     {
         Ok(Lookups {
             memory: Memory::new(alloc, slots)?,
             flight: HeapCircularBuffer::with_capacity(alloc, MOST_IN_FLIGHT as usize)?,
         })
+    }
+
+    /// Makes room for this many writes. It fails only for want of memory.
+    pub(crate) fn reserve(&mut self, n: u64) -> Result<(), AllocError>
+        ensures state { self.new.state ≡ self.old.state }
+        ensures flight { self.new.flight ≡ self.old.flight }
+        ensures enough { OnOk result (n ≤ self.new.spare) }
+        ensures least { self.old.spare ≤ self.new.spare }
+    {
+        self.memory.reserve(n)
     }
 
     /// The number of slots.
@@ -65,11 +76,13 @@ impl Lookups {
         self.memory.table_word(field, port)
     }
 
-    /// Makes a write of a slot that there is, or of a table.
+    /// Makes a write of a slot that there is, or of a table. It takes no memory.
     pub(crate) fn make(&mut self, write: &Write)
-        requires { IsInUse (length self.old.state.slots) write.now }
+        requires place { IsInUse (length self.old.state.slots) write.now }
+        requires room { 0 < self.old.spare }
         ensures state { self.new.state ≡ apply self.old.state write.now }
         ensures flight { self.new.flight ≡ self.old.flight }
+        ensures spare { self.old.spare ≤ self.new.spare + 1 }
     {
         self.memory.make(write);
     }
@@ -86,6 +99,7 @@ impl Lookups {
         requires { length self.old.flight < most_in_flight }
         ensures flight { self.new.flight ≡ with_word self.old.state key.now self.old.flight }
         ensures state { self.new.state ≡ self.old.state }
+        ensures spare { self.new.spare ≡ self.old.spare }
     {
         let word = self.memory.word(key);
         match self.flight.try_push_back((*key, word)) {
@@ -99,6 +113,7 @@ impl Lookups {
         ensures answer { result ≡ search_answer self.old.state self.old.flight }
         ensures flight { self.new.flight ≡ drop 1 self.old.flight }
         ensures state { self.new.state ≡ self.old.state }
+        ensures spare { self.new.spare ≡ self.old.spare }
     {
         match self.flight.pop_front() {
             None => None,

@@ -19,14 +19,14 @@ pub struct MemTcam {
 }
 
 impl Model for MemTcam {
-    ghost use Rattle.std.specs.Prelude.{length};
+    ghost use Rattle.std.specs.Prelude.{◌≤◌, length};
     ghost use Rattle.memory_tcam.specs.Tcam.{Tcam, Follows};
 
     ghost Value = { Tcam };
 
     ghost view = { λ m. record { slots = length m.lookups.state.slots; events = m.log.events; flight = m.lookups.flight; spare = m.log.spare } };
 
-    ghost invariant = { λ m. Follows m.lookups.state m.log.events };
+    ghost invariant = { λ m. Follows m.lookups.state m.log.events × (m.log.spare ≤ m.lookups.spare) };
 }
 
 impl MemTcam {
@@ -88,6 +88,7 @@ impl Writable for MemTcam {
     }
 
     fn reserve(&mut self, n: u64) -> Result<(), AllocError> {
+        self.lookups.reserve(n)?;
         self.log.reserve(n)
     }
 

@@ -13,8 +13,9 @@ use tcam_device::{Action, Device, DeviceFault, Field, Hardware, ReadBack, Writab
 
 /// A device made of hardware and its shadow: slots and tables in memory that follow the writes which the hardware
 /// answered Ok. So look-ups answer by what the hardware answered Ok, however little it tells. The journal, with the
-/// drains in it, is a history that takes no memory, and what the shadow takes doesn't grow. A drain is made of the
-/// hardware too, and words in flight are the shadow's.
+/// drains in it, is a history that takes no memory. The shadow's slots have theirs from the first, and its tables take some
+/// in `reserve` as words may be written, at most 262,144 bytes, and four a write for each where none was written
+/// (`port_table`). A drain is made of the hardware too, and words in flight are the shadow's.
 ///
 /// The hardware as it was given to `new` is remembered too, alone in a list, by a history that takes no memory:
 /// `given`. Each call that takes the device by `&mut` says that it keeps it. The calls of which [`Shadowed::hardware`]
@@ -30,14 +31,15 @@ pub struct Shadowed<H: Hardware> {
 }
 
 impl<H: Hardware> Model for Shadowed<H> {
-    ghost use Rattle.std.specs.Prelude.{length};
+    ghost use Rattle.std.specs.Prelude.{◌≤◌, length};
     ghost use Rattle.memory_tcam.specs.Tcam.{Shadow, IsShadow};
 
     ghost Value = { Shadow H };
 
     ghost view = { λ m. record { given = m.given.items; hardware = m.hardware; slots = length m.lookups.state.slots; events = m.events.items; flight = m.lookups.flight; spare = m.room; faults = m.faults } };
 
-    ghost invariant = { λ m. IsShadow H.puts H.drains m.given.items m.hardware (H.slot_count m.hardware) m.lookups.state m.events.items m.faults };
+    ghost invariant = { λ m. IsShadow H.puts H.drains m.given.items m.hardware (H.slot_count m.hardware) m.lookups.state m.events.items m.faults
+        × (m.room ≤ m.lookups.spare) };
 }
 
 impl<H: Hardware> Shadowed<H> {
@@ -108,6 +110,7 @@ impl<H: Hardware> Writable for Shadowed<H> {
         ensures faults { self.new.faults ≡ self.old.faults }
         ensures given { self.new.given ≡ self.old.given }
     {
+        self.lookups.reserve(n)?;
         self.room = self.room.max(n);
         Ok(())
     }

@@ -1,12 +1,12 @@
 -- What a device in memory keeps: blank at first, and what the events leave.
-use Rattle.std.proofs.Common.{◌≡◌, ℕ, Option, None, Some, List, length, replicate, refl, sym, ◌∙◌, ap, length-set, [], ◌∷◌, ◌++◌, drop, slice_get}
+use Rattle.std.proofs.Common.{◌≡◌, ℕ, min, arith, Option, None, Some, List, length, replicate, refl, sym, ◌∙◌, ap, length-set, [], ◌∷◌, ◌++◌, drop, slice_get}
 use Rattle.std.proofs.lemmas.List.{length-replicate}
 use Rattle.std.specs.Prelude.{slice_set}
 use Rattle.rule_model.specs.declared.words.Word.{Word}
 use Rattle.rule_model.specs.declared.words.Entry.{Entry}
 use Rattle.rule_model.specs.declared.Key.{Key}
 use Rattle.rule_model.specs.RuleSet.{Answer}
-use Rattle.tcam_device.specs.State.{search_word}
+use Rattle.tcam_device.specs.State.{blank_table, search_word}
 use Rattle.tcam_device.proofs.Kept.{blank_table-is}
 use Rattle.split_device.specs.Flight.{Flight, with_search, with_word}
 use Rattle.rule_model.specs.declared.Field.TheVariants.{Src, Dst}
@@ -14,20 +14,26 @@ use Rattle.split_device.specs.declared.SplitWrite.{SplitWrite}
 use Rattle.split_device.specs.declared.SplitWrite.TheVariants.{Slot, Result, Table}
 use Rattle.split_device.specs.State.{SplitState, split_apply, blank_split, hit_slot, no_result, read_at, split_lookup, undivided}
 use Rattle.split_device.proofs.InMemory.{blank_split-is, looked_is, searched_is}
-use Rattle.split_hardware.specs.Shadow.{Follows, IsMemory, half, halves}
-use Rattle.split_hardware.proofs.Halves.{halves_blank, halves_set}
+use Rattle.split_hardware.specs.Shadow.{Follows, RoomyMemory, half, halves}
+use Rattle.split_hardware.proofs.Halves.{halves_blank, halves_set, halves_size}
 
--- empty slots, blank result words and tables of words that are 0 are the blank state
-pub blank_is : (n : ℕ) (slots : List (Option Entry)) (results : List (ℕ × ℕ)) (src dst : List ℕ) → slots ≡ replicate n None → results ≡ replicate n no_result → src ≡ replicate 65536 0
-    → dst ≡ replicate 65536 0 → ◌≡◌ {A = SplitState} (record { slots = halves slots; results = results; src = src; dst = dst }) (blank_split n)
-blank_is n slots results src dst e r s d = blank_split-is n (halves slots) results src dst (halves_blank n slots e) r s d
+-- a memory by its state and the room that both tables have
+roomy_is : (state state' : SplitState) (spare spare' : ℕ) → state ≡ state' → spare ≡ spare'
+    → ◌≡◌ {A = RoomyMemory} (record { state = state; spare = spare }) (record { state = state'; spare = spare' })
+roomy_is state state' spare spare' s n =
+    ap (λ x. let made : RoomyMemory = record { state = x; spare = spare } in made) s ∙ ap (λ x. let made : RoomyMemory = record { state = state'; spare = x } in made) n
 
-pub blank_memory : (n : ℕ) → IsMemory (blank_split n)
-blank_memory n = record {
-  results_size = length-replicate n no_result ∙ sym (length-replicate n None);
-  src_size = ap length blank_table-is ∙ length-replicate {A = ℕ} 65536 0;
-  dst_size = ap length blank_table-is ∙ length-replicate {A = ℕ} 65536 0;
-}
+-- empty slots, blank result words and tables of words that are 0, without room, are the blank memory
+pub blank_is : (n : ℕ) (slots : List (Option Entry)) (results : List (ℕ × ℕ)) (src dst : List ℕ) (src_room dst_room : ℕ) → slots ≡ replicate n None → results ≡ replicate n no_result → src ≡ blank_table
+    → dst ≡ blank_table → src_room ≡ 0 → dst_room ≡ 0
+    → ◌≡◌ {A = RoomyMemory} (record { state = record { slots = halves slots; results = results; src = src; dst = dst }; spare = min src_room dst_room }) (record { state = blank_split n; spare = 0 })
+blank_is n slots results src dst src_room dst_room e r s d no_src no_dst =
+    roomy_is (record { slots = halves slots; results = results; src = src; dst = dst }) (blank_split n) (min src_room dst_room) 0
+    (blank_split-is n (halves slots) results src dst (halves_blank n slots e) r (s ∙ blank_table-is) (d ∙ blank_table-is)) (omega arith)
+
+-- as many result words as slots
+pub blank_results : (n : ℕ) (slots : List (Option Entry)) (results : List (ℕ × ℕ)) → slots ≡ replicate n None → results ≡ replicate n no_result → length results ≡ length (halves slots)
+blank_results n slots results e r = ap length r ∙ length-replicate n no_result ∙ sym (ap length (halves_blank n slots e) ∙ length-replicate n None)
 
 -- a slot that is put into the columns is put into the state, and leaves the sizes
 pub put_is : (slots now : List (Option Entry)) (results : List (ℕ × ℕ)) (src dst : List ℕ) (at : ℕ) (entry : Option Entry) (parts : Option (Word × Word)) → now ≡ slice_set slots at entry
@@ -37,12 +43,9 @@ pub put_is : (slots now : List (Option Entry)) (results : List (ℕ × ℕ)) (sr
 put_is slots now results src dst at entry parts is same =
     ap (λ (some : List (Option (Word × Word))). record { slots = some; results = results; src = src; dst = dst }) (halves_set slots now at entry parts is same)
 
-pub put_kept : (state : SplitState) (at : ℕ) (parts : Option (Word × Word)) → IsMemory state → IsMemory (record state { slots = slice_set state.slots at parts })
-put_kept state at parts was = record {
-  results_size = was.results_size ∙ sym (length-set state.slots at parts);
-  src_size = was.src_size;
-  dst_size = was.dst_size;
-}
+pub put_kept : (slots now : List (Option Entry)) (results : List (ℕ × ℕ)) (at : ℕ) (entry : Option Entry) → now ≡ slice_set slots at entry → length results ≡ length (halves slots)
+    → length results ≡ length (halves now)
+put_kept slots now results at entry is was = was ∙ halves_size slots ∙ sym (halves_size now ∙ ap length is ∙ length-set slots at entry)
 
 -- a blank memory has no event behind it
 pub follows_blank : (n : ℕ) (memory : SplitState) → memory ≡ blank_split n → Follows memory []

@@ -1,5 +1,5 @@
 -- What a device shows of itself that a memory makes of hardware with split results.
-use Rattle.std.specs.Prelude.{◌≡◌, ◌^◌, ◌++◌, ◌≤◌, ℕ, Option, Some, None, List, [], ◌∷◌, length, map, Result, Ok, Err}
+use Rattle.std.specs.Prelude.{◌≡◌, ◌++◌, ◌≤◌, ℕ, Option, Some, None, List, [], ◌∷◌, length, map, Result, Ok, Err}
 use Rattle.call_history.specs.Cause.{raised}
 use Rattle.rule_model.specs.declared.words.Word.{Word}
 use Rattle.rule_model.specs.declared.words.Entry.{Entry}
@@ -23,10 +23,16 @@ pub record Shadow (H : Type 0) : Type 0 where
   pub spare : ℕ
   pub faults : ℕ
 
--- a memory with what is in flight of it
+-- a memory, and how many writes have their room
+pub record RoomyMemory : Type 0 where
+  pub state : SplitState
+  pub spare : ℕ
+
+-- a memory with what is in flight of it, and how many writes have their room
 pub record LookedUp : Type 0 where
   pub state : SplitState
   pub flight : Flight
+  pub spare : ℕ
 
 -- A call of hardware: what it was before, and what was asked for, a write with its answer or a drain.
 pub data Call (H : Type 0) : Type 0 where
@@ -88,12 +94,6 @@ half (Some entry) = Some (entry.value, entry.mask)
 -- those of the entries of some slots
 abbrev pub halves : List (Option Entry) → List (Option (Word × Word))
 halves slots = map half slots
-
--- a result word for each slot, and two tables of 65,536 words
-pub record IsMemory (state : SplitState) : Type 0 where
-  pub results_size : length state.results ≡ length state.slots
-  pub src_size : length state.src ≡ 2 ^ 16
-  pub dst_size : length state.dst ≡ 2 ^ 16
 
 -- each queue has room for all that may be in flight
 pub record HasFlightRoom (flight : Flight) (words_room found_room : ℕ) : Type 0 where

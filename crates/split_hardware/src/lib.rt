@@ -12,7 +12,7 @@
 //!   `tcam_device` and `memory_tcam`. So a faster look-up here proves no commit anew, and none of those who lead such a
 //!   device needs a memory of columns.
 //! - **The shadow keeps no events.** What `SplitDevice` tells of them are histories, which take no memory, and each queue of
-//!   what is in flight has its room from the first: what the shadow takes doesn't grow, and no call takes memory but `new`.
+//!   what is in flight has its room from the first: no call takes memory but `new` and, for the tables, `reserve`.
 //! - **A slot's value and mask stand in the columns of `lane_lookup`** as an entry of the least tag and of result 0, and the
 //!   result words beside them: the look-up is the one of whole entries, and reads another word in the end.
 #![tactic(auto)]

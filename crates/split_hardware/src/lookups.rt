@@ -1,5 +1,5 @@
 // Slots, result words and tables in memory, with the look-ups in flight.
-ghost use Rattle.std.specs.Prelude.{◌≡◌, ◌<◌, ◌≤◌, ◌↔◌, [], length, IfOk, true};
+ghost use Rattle.std.specs.Prelude.{◌≡◌, ◌<◌, ◌≤◌, ◌+◌, ◌↔◌, [], length, IfOk, OnOk, true};
 ghost use Rattle.tcam_device.specs.Flight.{most_in_flight};
 ghost use Rattle.split_device.specs.State.{IsSplitInUse, blank_split, split_apply, split_lookup};
 ghost use Rattle.split_device.specs.Flight.{flight_count, no_flight, oldest_read, with_read, with_search, with_word};
@@ -26,23 +26,33 @@ impl Model for Lookups {
 
     ghost Value = { LookedUp };
 
-    ghost view = { λ l. record { state = l.memory; flight = record { words = l.words.items; found = l.found.items } } };
+    ghost view = { λ l. record { state = l.memory.state; flight = record { words = l.words.items; found = l.found.items }; spare = l.memory.spare } };
 
     ghost invariant = { λ l. HasFlightRoom (record { words = l.words.items; found = l.found.items }) l.words.capacity l.found.capacity };
 }
 
 impl Lookups {
-    /// A blank memory of this many slots, with nothing in flight.
+    /// A blank memory of this many slots, with nothing in flight, and room for no write.
     pub(crate) fn new(alloc: Global, slots: u32) -> Result<Lookups, AllocError>
         requires least { 0 < slots }
         requires most { slots ≤ 65536 }
-        ensures { IfOk result (λ lookups. lookups ≡ record { state = blank_split slots; flight = no_flight }) }
+        ensures { IfOk result (λ lookups. lookups ≡ record { state = blank_split slots; flight = no_flight; spare = 0 }) }
     {
         Ok(Lookups {
             memory: Memory::new(alloc, slots)?,
             words: HeapCircularBuffer::with_capacity(alloc, MOST_IN_FLIGHT as usize)?,
             found: HeapCircularBuffer::with_capacity(alloc, MOST_IN_FLIGHT as usize)?,
         })
+    }
+
+    /// Makes room for this many writes. It fails only for want of memory.
+    pub(crate) fn reserve(&mut self, n: u64) -> Result<(), AllocError>
+        ensures state { self.new.state ≡ self.old.state }
+        ensures flight { self.new.flight ≡ self.old.flight }
+        ensures enough { OnOk result (n ≤ self.new.spare) }
+        ensures least { self.old.spare ≤ self.new.spare }
+    {
+        self.memory.reserve(n)
     }
 
     /// The number of slots.
@@ -52,11 +62,13 @@ impl Lookups {
         self.memory.count()
     }
 
-    /// Makes a write of a slot that there is, or of a table.
+    /// Makes a write of a slot that there is, or of a table. It takes no memory.
     pub(crate) fn make(&mut self, write: &SplitWrite)
-        requires { IsSplitInUse (length self.old.state.slots) write.now }
+        requires place { IsSplitInUse (length self.old.state.slots) write.now }
+        requires room { 0 < self.old.spare }
         ensures state { self.new.state ≡ split_apply self.old.state write.now }
         ensures flight { self.new.flight ≡ self.old.flight }
+        ensures spare { self.old.spare ≤ self.new.spare + 1 }
     {
         self.memory.make(write);
     }
@@ -75,6 +87,7 @@ impl Lookups {
         requires { flight_count self.old.flight < most_in_flight }
         ensures flight { self.new.flight ≡ with_word self.old.state self.old.flight key.now }
         ensures state { self.new.state ≡ self.old.state }
+        ensures spare { self.new.spare ≡ self.old.spare }
     {
         let word = self.memory.word(key);
         match self.words.try_push_back((*key, word)) {
@@ -89,6 +102,7 @@ impl Lookups {
         ensures searched { (result ≡ true) ↔ (0 < length self.old.flight.words) }
         ensures flight { self.new.flight ≡ with_search self.old.state self.old.flight }
         ensures state { self.new.state ≡ self.old.state }
+        ensures spare { self.new.spare ≡ self.old.spare }
     {
         match self.words.pop_front() {
             None => false,
@@ -107,6 +121,7 @@ impl Lookups {
         ensures answer { result ≡ oldest_read self.old.state self.old.flight.found }
         ensures flight { self.new.flight ≡ with_read self.old.flight }
         ensures state { self.new.state ≡ self.old.state }
+        ensures spare { self.new.spare ≡ self.old.spare }
     {
         match self.found.pop_front() {
             None => None,

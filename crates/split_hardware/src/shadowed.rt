@@ -14,8 +14,9 @@ use tcam_device::DeviceFault;
 
 /// A device made of hardware and its shadow: slots, result words and tables in memory that follow the writes which the
 /// hardware answered Ok. So look-ups answer by what the hardware answered Ok, however little it tells. The events are a
-/// history that takes no memory, and what the shadow takes doesn't grow. A drain is made of the hardware too, and what is in
-/// flight is the shadow's.
+/// history that takes no memory. The shadow's slots and result words have theirs from the first, and its tables take some in
+/// `reserve` as words may be written, at most 262,144 bytes, and eight a write where none was written (`port_table`). A drain
+/// is made of the hardware too, and what is in flight is the shadow's.
 ///
 /// The hardware as it was given to `new` is remembered too, alone in a list, by a history that takes no memory:
 /// `given`. Each call that takes the device by `&mut` says that it keeps it. The calls of which [`SplitShadowed::hardware`]
@@ -31,14 +32,15 @@ pub struct SplitShadowed<H: SplitHardware> {
 }
 
 impl<H: SplitHardware> Model for SplitShadowed<H> {
-    ghost use Rattle.std.specs.Prelude.{length};
+    ghost use Rattle.std.specs.Prelude.{◌≤◌, length};
     ghost use Rattle.split_hardware.specs.Shadow.{Shadow, IsShadow};
 
     ghost Value = { Shadow H };
 
     ghost view = { λ m. record { given = m.given.items; hardware = m.hardware; slots = length m.lookups.state.slots; events = m.events.items; flight = m.lookups.flight; spare = m.room; faults = m.faults } };
 
-    ghost invariant = { λ m. IsShadow H.puts H.drains m.given.items m.hardware (H.slot_count m.hardware) m.lookups.state m.events.items m.faults };
+    ghost invariant = { λ m. IsShadow H.puts H.drains m.given.items m.hardware (H.slot_count m.hardware) m.lookups.state m.events.items m.faults
+        × (m.room ≤ m.lookups.spare) };
 }
 
 impl<H: SplitHardware> SplitShadowed<H> {
@@ -105,6 +107,7 @@ impl<H: SplitHardware> SplitDevice for SplitShadowed<H> {
         ensures faults { self.new.faults ≡ self.old.faults }
         ensures given { self.new.given ≡ self.old.given }
     {
+        self.lookups.reserve(n)?;
         self.room = self.room.max(n);
         Ok(())
     }

@@ -1,4 +1,4 @@
-use Rattle.std.proofs.Common.{ap, sym, ◌∙◌}
+use Rattle.std.proofs.Common.{ap, sym, ◌∙◌, arith}
 use Rattle.tcam_device.specs.Flight.{writes_in}
 use Rattle.tcam_device.proofs.Flights.{writes_in-drained}
 use Rattle.memory_tcam.proofs.Kept.{follows-drained}
@@ -12,9 +12,13 @@ returns-clause-journal g c =
 pub invariant_of-self : goal.invariant_of-self
 invariant_of-self g c =
     let i = c.self.inside in
-    let was = c.self.invariant in
-    rw c.and-self-inside.ensures record {
-      size = was.size ∙ sym c.drain.ensures.slots;
-      follows = follows-drained i.lookups.state i.events.items was.follows;
-      put = drain_more g.H.Hardware.puts g.H.Hardware.drains i.given.items i.events.items i.faults i.hardware c.drain.new.self was.put c.drain.ensures.drains;
-    }
+    let was = c.self.invariant.0 in
+    let room = c.self.invariant.1 in
+    rw c.and-self-inside.ensures (
+      record {
+        size = was.size ∙ sym c.drain.ensures.slots;
+        follows = follows-drained i.lookups.state i.events.items was.follows;
+        put = drain_more g.H.Hardware.puts g.H.Hardware.drains i.given.items i.events.items i.faults i.hardware c.drain.new.self was.put c.drain.ensures.drains;
+      },
+      omega arith,
+    )
