@@ -11,7 +11,7 @@ use Rattle.split_order.specs.Managed.{SplitManaged, at_rest}
 use Rattle.split_order.specs.Steps.{IsPartNext}
 use Rattle.split_order.proofs.Carrying.{Goes, has_finished}
 use Rattle.router.specs.Run.{drains_in}
-use Rattle.router.specs.Carried.{IsCarriedTo, IsStuckAt, LeavesDevice}
+use Rattle.router.specs.Carried.{IsCarriedTo, IsCutAt, IsStuckAt, LeavesDevice}
 
 -- the drains so far and those that are left
 pub count_wrote : (drains total : ℕ) (part : SplitWrite) (left rest : List SplitAction) → drains + drains_in left ≡ total → left ≡ Written part ∷ rest → drains + drains_in rest ≡ total
@@ -26,6 +26,19 @@ count_drained drains total left rest count is =
 pub drain_fits : (drains total : ℕ) (left rest : List SplitAction) → drains + drains_in left ≡ total → left ≡ Drained ∷ rest → drains + 1 ≤ total
 drain_fits drains total left rest count is = let more = count_drained drains total left rest count is in omega arith
 
+-- the parts so far and those that are left
+pub parts_wrote : (parts total : ℕ) (part : SplitWrite) (left rest : List SplitAction) → parts + length (written left) ≡ total → left ≡ Written part ∷ rest → parts + 1 + length (written rest) ≡ total
+parts_wrote parts total part left rest count is =
+    let here : length (written left) ≡ suc (length (written rest)) = ap (λ (some : List SplitAction). length (written some)) is in
+    omega arith
+
+pub parts_drained : (parts total : ℕ) (left rest : List SplitAction) → parts + length (written left) ≡ total → left ≡ Drained ∷ rest → parts + length (written rest) ≡ total
+parts_drained parts total left rest count is = ap (λ (some : List SplitAction). parts + length (written some)) (sym is) ∙ count
+
+-- a part more is one of those that there are
+pub part_fits : (parts total : ℕ) (part : SplitWrite) (left rest : List SplitAction) → parts + length (written left) ≡ total → left ≡ Written part ∷ rest → parts + 1 ≤ total
+part_fits parts total part left rest count is = let more = parts_wrote parts total part left rest count is in omega arith
+
 -- all was made
 pub all_carried : (slots : ℕ) (old now new : SplitManaged) (events events' : List SplitAction) (failures faults faults' drains : ℕ) → Goes slots old now events events' 4 failures faults faults'
     → left_of slots now ≡ [] → new ≡ at_rest (finished now.whole) now.events → drains + drains_in (left_of slots now) ≡ drains_in (left_of slots old) → IsCarriedTo slots old drains new events events'
@@ -39,6 +52,11 @@ all_carried slots old now new events events' failures faults faults' drains goes
 pub is_stuck : (slots : ℕ) (old now : SplitManaged) (events events' : List SplitAction) (tries failures faults faults' : ℕ) → Goes slots old now events events' tries failures faults faults'
     → IsPartNext (left_of slots now) → IsStuckAt slots old now events events'
 is_stuck slots old now events events' tries failures faults faults' goes due = record { made = goes.made; has_made = goes.has_made; due = due; grown = goes.events_are }
+
+-- a line of what was made last was refused
+pub is_cut : (slots : ℕ) (old now : SplitManaged) (events events' : List SplitAction) (tries failures faults faults' : ℕ) → Goes slots old now events events' tries failures faults faults'
+    → IsCutAt slots old now events events'
+is_cut slots old now events events' tries failures faults faults' goes = record { made = goes.made; has_made = goes.has_made; grown = goes.events_are }
 
 -- what its device is left as
 pub tried_none : (number faults faults' : ℕ) (Stuck : Type 0) → IsCount 4 number 0 faults faults' → (Stuck → ⊥) → IsTried 4 number Stuck faults faults'

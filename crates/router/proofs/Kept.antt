@@ -1,5 +1,5 @@
 -- What a router is between two calls.
-use Rattle.std.proofs.Common.{◌≡◌, ℕ, ◌+◌, ◌^◌, ◌≤◌, ◌&&◌, not, is_some, Bool, true, Option, None, Some, Result, Ok, Err, OnOk, OnErr, List, [], ◌∷◌, ◌++◌, length, refl, sym, ap, ap₂, subst, ◌∙◌, le_refl, length-append, arith}
+use Rattle.std.proofs.Common.{◌≡◌, ℕ, ◌+◌, ◌^◌, ◌≤◌, ◌&&◌, not, is_some, Bool, true, Option, None, Some, IsSome, Result, Ok, Err, OnOk, OnErr, List, [], ◌∷◌, ◌++◌, length, refl, sym, ap, ap₂, subst, ◌∙◌, le_refl, length-append, arith}
 use Rattle.std.specs.List.{AllByRecursion}
 use Rattle.rule_model.specs.declared.IpVersion.{IpVersion}
 use Rattle.rule_model.specs.declared.Rule.{Rule}
@@ -19,11 +19,11 @@ use Rattle.split_order.specs.CarriedOut.{HasMade, finished_split}
 use Rattle.split_order.specs.Left.{left_of}
 use Rattle.split_order.specs.Managed.{SplitManaged, at_rest}
 use Rattle.split_order.specs.Prepared.{HoldsSplit}
-use Rattle.split_order.specs.Steps.{IsPartNext, dropped, is_untouched}
+use Rattle.split_order.specs.Steps.{dropped, is_untouched}
 use Rattle.split_order.proofs.Carrying.{same_slots}
 use Rattle.router.specs.Routing.{HasFewLeft, HasPlannedState, IsRouter, Routing, begun, number_left}
 use Rattle.router.proofs.Few.{few_parts, held_is}
-use Rattle.router.proofs.Parts.{held_of_part, not_held}
+use Rattle.router.proofs.Parts.{not_held}
 use Rattle.router.proofs.PlannedState.{planned_after, planned_before}
 use Rattle.router.proofs.RouteSets.{changes_more, routes_after}
 
@@ -36,8 +36,8 @@ none_left slots whole events none = record {
 }
 
 -- before the first act
-pub begun_router : (slots : ℕ) (mode : Mode) (placement : Placement) (version : IpVersion) → IsRouter (begun slots mode placement version)
-begun_router slots mode placement version = record {
+pub begun_router : (slots : ℕ) (mode : Mode) (placement : Placement) (version : IpVersion) (trace : Bool) → IsRouter (begun slots mode placement version trace)
+begun_router slots mode placement version trace = record {
   slots = refl;
   mode = refl;
   placement = refl;
@@ -186,27 +186,31 @@ few_made slots made old now has =
     ap (λ (some : List SplitAction). length (written some)) has.left_is ∙ (ap length (written_append made (left_of slots now)) ∙ length-append (written made) (written (left_of slots now))) in
     omega arith
 
-few_stuck : (slots : ℕ) (made : List SplitAction) (old : SplitManaged) (batch : List Command) (counts : SplitDone) (taken now : SplitManaged) → HoldsSplit old batch counts taken
+few_stopped : (slots : ℕ) (made : List SplitAction) (old : SplitManaged) (batch : List Command) (counts : SplitDone) (taken now : SplitManaged) → HoldsSplit old batch counts taken
     → taken.whole.slots ≤ slots → HasMade slots made taken now → HasFewLeft now
-few_stuck slots made old batch counts taken now holds wide has = record {
+few_stopped slots made old batch counts taken now holds wide has = record {
   slots = slots;
   wide = subst (λ (n : ℕ). n ≤ slots) (sym (same_slots slots made taken now has)) wide;
   few = (let all = few_parts slots old batch counts taken holds in let some = few_made slots made taken now has in omega arith);
 }
 
--- the router where the list's device failed
-pub stuck_list : (slots : ℕ) (made : List SplitAction) (router : Routing) (old : SplitManaged) (batch : List Command) (counts : SplitDone) (now : SplitManaged) → IsRouter router
-    → HoldsSplit old batch counts router.listed → router.listed.whole.slots ≤ slots → HasMade slots made router.listed now → IsPartNext (left_of slots now) → IsRouter (record router { listed = now })
-stuck_list slots made router old batch counts now is holds wide has due = record {
+-- a plan is held
+pub held_some : (old : SplitManaged) (batch : List Command) (counts : SplitDone) (new : SplitManaged) → HoldsSplit old batch counts new → IsSome new.whole.held
+held_some old batch counts new holds = subst (λ (held : Option HeldCommit). IsSome held) (sym (held_is old.whole.slots old batch counts new holds)) refl
+
+-- the router where the list's part was stopped, by its device or by the sink
+pub stopped_list : (slots : ℕ) (made : List SplitAction) (router : Routing) (old : SplitManaged) (batch : List Command) (counts : SplitDone) (now : SplitManaged) → IsRouter router
+    → HoldsSplit old batch counts router.listed → router.listed.whole.slots ≤ slots → HasMade slots made router.listed now → IsSome now.whole.held → IsRouter (record router { listed = now })
+stopped_list slots made router old batch counts now is holds wide has held = record {
   slots = is.slots ∙ sym (same_slots slots made router.listed now has);
   mode = is.mode ∙ sym (ap (λ (some : Managed × Option (List Rule × FieldBits × FieldBits)). some.0.mode) has.outline_is);
   placement = is.placement ∙ sym (ap (λ (some : Managed × Option (List Rule × FieldBits × FieldBits)). some.0.placement) has.outline_is);
   routes = is.routes;
   changes = is.changes;
   writes = is.writes;
-  list_few = few_stuck slots made old batch counts router.listed now holds wide has;
+  list_few = few_stopped slots made old batch counts router.listed now holds wide has;
   route_few = is.route_few;
-  list_stands = λ none. absurd (not_held now (held_of_part slots now due) none);
+  list_stands = λ none. absurd (not_held now held none);
   route_stands = is.route_stands;
 }
 
@@ -226,10 +230,10 @@ made_list slots router old batch counts is holds wide stands = record {
   route_stands = is.route_stands;
 }
 
--- and the routes' device failed
-pub stuck_routes : (slots : ℕ) (made : List SplitAction) (router : Routing) (old : SplitManaged) (batch : List Command) (counts : SplitDone) (now : SplitManaged) → IsRouter router
-    → HoldsSplit old batch counts router.routed → router.routed.whole.slots ≤ slots → HasMade slots made router.routed now → IsPartNext (left_of slots now) → IsRouter (record router { routed = now })
-stuck_routes slots made router old batch counts now is holds wide has due = record {
+-- and the routes' part was stopped
+pub stopped_routes : (slots : ℕ) (made : List SplitAction) (router : Routing) (old : SplitManaged) (batch : List Command) (counts : SplitDone) (now : SplitManaged) → IsRouter router
+    → HoldsSplit old batch counts router.routed → router.routed.whole.slots ≤ slots → HasMade slots made router.routed now → IsSome now.whole.held → IsRouter (record router { routed = now })
+stopped_routes slots made router old batch counts now is holds wide has held = record {
   slots = same_slots slots made router.routed now has ∙ is.slots;
   mode = ap (λ (some : Managed × Option (List Rule × FieldBits × FieldBits)). some.0.mode) has.outline_is ∙ is.mode;
   placement = ap (λ (some : Managed × Option (List Rule × FieldBits × FieldBits)). some.0.placement) has.outline_is ∙ is.placement;
@@ -237,9 +241,9 @@ stuck_routes slots made router old batch counts now is holds wide has due = reco
   changes = is.changes;
   writes = is.writes;
   list_few = is.list_few;
-  route_few = few_stuck slots made old batch counts router.routed now holds wide has;
+  route_few = few_stopped slots made old batch counts router.routed now holds wide has;
   list_stands = is.list_stands;
-  route_stands = λ none. absurd (not_held now (held_of_part slots now due) none);
+  route_stands = λ none. absurd (not_held now held none);
 }
 
 -- the routes' part was made too

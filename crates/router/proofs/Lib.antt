@@ -1,11 +1,14 @@
 pub mod Few
 pub mod RouteSets
 pub mod Effects
+pub mod Telling
 pub mod Counting
 pub mod Parts
+pub mod Stopping
 pub mod PlannedState
 pub mod Acts
 pub mod Kept
 pub mod Left
 pub mod Planning
 pub mod Making
+pub mod Cutting

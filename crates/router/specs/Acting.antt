@@ -1,5 +1,5 @@
 -- What a router does by one act, to its devices and to a sink that may tell or not.
-use Rattle.std.specs.Prelude.{◌≡◌, ℕ, ◌++◌, ◌∷◌, Option, None, Some, IsSome, Result, Ok, Err, List, []}
+use Rattle.std.specs.Prelude.{◌≡◌, ℕ, ◌++◌, ◌∷◌, Option, None, Some, IsSome, is_some, Result, Ok, Err, List, [], if◌then◌else◌}
 use Rattle.std.specs.Io.KnownBytes.{Appends}
 use Rattle.split_device.specs.declared.SplitAction.{SplitAction}
 use Rattle.split_device.specs.declared.SplitAction.TheVariants.{Written}
@@ -41,10 +41,9 @@ pub record CutsAtLine (setting : Setting) (slots : DeviceSlots) (old : Progress)
   pub cut : IsCutStep setting slots old act front (Prints (partial ++ rest))
   pub does : Does front partial before after
 
--- It is cut at a part that a device didn't take: from that one on this many parts are left, of both tables.
-pub record CutsAtPart (setting : Setting) (slots : DeviceSlots) (old : Progress) (act : RouterAct) (left : Option ℕ) (before after : Outside) : Type 0 where
+-- It is cut at a part that this table's device didn't take: from that one on so many parts are left, of both tables.
+pub record CutsAtPart (setting : Setting) (slots : DeviceSlots) (old : Progress) (act : RouterAct) (which : Side) (left : Option ℕ) (before after : Outside) : Type 0 where
   pub front : List Effect
-  pub which : Side
   pub part : SplitWrite
   pub cut : IsCutStep setting slots old act front (Makes which (Written part))
   pub does : Does front [] before after
@@ -63,6 +62,10 @@ pub record IsUntouched (old new : Routing) (before after : Outside) : Type 0 whe
   pub router : new ≡ old
   pub outside_is : after ≡ before
 
+-- the table whose part failed where the rest of a commit is held: the list where its plan is held still, and else the routes
+abbrev pub failed_side : Routing → Side
+failed_side router = if is_some router.listed.whole.held then side.List else side.Routes
+
 -- What an act comes to, by the answer. Where the devices are where the router stands, the act is carried out, or cut at the
 -- line or at the part that failed. For want of memory or of room, or while a commit is unfinished, nothing is done.
 abbrev pub ComesTo : DeviceSlots → Routing → RouterAct → Routing → Result (Unit {0}) RouterFault → Outside → Outside → Type 0
@@ -72,7 +75,7 @@ ComesTo slots old act new (Err Sink) before after =
     AreAt old before.list before.routes → CutsAtLine (setting_of old) slots (progress_of old) act before after
 ComesTo slots old act new (Err Device) before after =
     KeepsCounts old new
-    × (AreAt old before.list before.routes → CutsAtPart (setting_of old) slots (progress_of old) act (held_left slots new) before after)
+    × (AreAt old before.list before.routes → CutsAtPart (setting_of old) slots (progress_of old) act (failed_side new) (held_left slots new) before after)
 ComesTo slots old act new (Err Memory) before after = TakesMemory (setting_of old) (progress_of old) act × IsUntouched old new before after
 ComesTo slots old act new (Err BatchFull) before after = IsUntouched old new before after
 ComesTo slots old act new (Err (Held left)) before after = IsUntouched old new before after

@@ -22,13 +22,15 @@ use Rattle.router.specs.declared.RouterFault.TheVariants.{BatchFull, Sink, Devic
 use Rattle.router.specs.Run.{DeviceSlots, Progress, Setting, Table}
 use Rattle.router.specs.Script.{Pending}
 
--- The manager and the pending batch of each table, the version of IP, what the report counts, and whether the sink failed.
+-- The manager and the pending batch of each table, the version of IP, whether parts are told, what the report counts, and
+-- whether the sink failed.
 pub record Routing : Type 0 where
   pub listed : SplitManaged
   pub routed : SplitManaged
   pub list_batch : List Command
   pub route_batch : List Command
   pub version : IpVersion
+  pub trace : Bool
   pub commits : ℕ
   pub writes : ℕ
   pub refused : Bool
@@ -42,6 +44,7 @@ setting_of router =
       mode = router.listed.whole.mode;
       placement = router.listed.whole.placement;
       version = router.version;
+      trace = router.trace;
     }
 
 -- where a table stands by its manager and its pending batch
@@ -64,14 +67,15 @@ abbrev pub pending_of : Routing → Pending
 pending_of router = record { listed = length router.list_batch; routed = length router.route_batch }
 
 -- a router before its first act
-abbrev pub begun : ℕ → Mode → Placement → IpVersion → Routing
-begun slots mode placement version =
+abbrev pub begun : ℕ → Mode → Placement → IpVersion → Bool → Routing
+begun slots mode placement version trace =
     record {
       listed = fresh_split slots mode placement;
       routed = fresh_split slots mode placement;
       list_batch = [];
       route_batch = [];
       version = version;
+      trace = trace;
       commits = 0;
       writes = 0;
       refused = false;

@@ -1,5 +1,5 @@
 -- What the acts of a router's script do to both devices and to the report.
-use Rattle.std.specs.Prelude.{◌≡◌, ℕ, ◌+◌, suc, Bool, true, false, List, [], ◌∷◌, ◌++◌, length, map, take}
+use Rattle.std.specs.Prelude.{◌≡◌, ℕ, ◌+◌, suc, Bool, true, false, List, [], ◌∷◌, ◌++◌, if◌then◌else◌, length, take}
 use Rattle.std.specs.List.{AllByRecursion}
 use Rattle.rule_model.specs.declared.IpVersion.{IpVersion}
 use Rattle.rule_model.specs.declared.Rule.{Rule}
@@ -24,14 +24,16 @@ use Rattle.router.specs.declared.Side.{Side}
 use Rattle.router.specs.declared.Side.TheVariants as side
 use Rattle.router.specs.declared.RouterAct.{RouterAct}
 use Rattle.router.specs.declared.RouterAct.TheVariants.{Change, Packet, Commit}
-use Rattle.router.specs.Text.{packet_line, accepted_line, refused_line, end_line}
+use Rattle.router.specs.Text.{packet_line, accepted_line, action_line, end_line, parts_behind, refused_line}
 
--- the slots in use of each device, how ranges are tested, where insertions aim, and the version of IP
+-- The slots in use of each device, how ranges are tested, where insertions aim, the version of IP, and whether each part has
+-- a line.
 pub record Setting : Type 0 where
   pub slots : ℕ
   pub mode : Mode
   pub placement : Placement
   pub version : IpVersion
+  pub trace : Bool
 
 -- the slots of both devices
 pub record DeviceSlots : Type 0 where
@@ -66,6 +68,19 @@ abbrev pub printed : List Effect → List ℕ
 printed [] = []
 printed (Makes which action ∷ effects) = printed effects
 printed (Prints line ∷ effects) = line ++ printed effects
+
+-- a trace line, where a trace is wanted
+abbrev pub traced : Bool → List ℕ → List Effect
+traced trace line = if trace then Prints line ∷ [] else []
+
+-- The parts and drains that are made of a table's device, behind so many of its parts, each with its line where a trace is
+-- wanted.
+abbrev pub told_parts : Bool → IpVersion → Side → ℕ → List SplitAction → List Effect
+told_parts trace version which parts [] = []
+told_parts trace version which parts (action ∷ made) =
+    Makes which action
+    ∷ (traced trace (action_line version which (parts_behind parts action) action)
+    ++ told_parts trace version which (parts_behind parts action) made)
 
 -- where a table stands: its set, pending batch, live ranges, and what was made of its device since that was blank
 pub record Table : Type 0 where
@@ -147,7 +162,7 @@ after_commit setting old listed routed =
       writes = old.writes + (length (written listed) + length (written routed));
     }
 
--- A commit that is made: the list's part, then the routes', and a line with their numbers.
+-- A commit that is made: the list's part, then the routes', each with the lines of its trace, and a line with their numbers.
 pub record Commits (setting : Setting) (slots : DeviceSlots) (old : Progress) (effects : List Effect) (new : Progress) : Type 0 where
   pub listed : List SplitAction
   pub routed : List SplitAction
@@ -155,7 +170,8 @@ pub record Commits (setting : Setting) (slots : DeviceSlots) (old : Progress) (e
   pub route_part : IsPartOfCommit setting slots.routed old.routed routed
   -- no insertion of a route crosses others, nor takes more parts than a prefix may have lengths
   pub of_routes : IsSplitUncrossed (most_by_parts setting.version) (split_insertions (table_state slots.routed old.routed) (written routed))
-  pub effects_are : effects ≡ map (Makes side.List) listed ++ (map (Makes side.Routes) routed ++ Prints (made_line old listed routed) ∷ [])
+  pub effects_are : effects ≡ told_parts setting.trace setting.version side.List 0 listed
+      ++ (told_parts setting.trace setting.version side.Routes 0 routed ++ Prints (made_line old listed routed) ∷ [])
   pub after : new ≡ after_commit setting old listed routed
 
 -- where a run stands after a refused commit: both batches are dropped

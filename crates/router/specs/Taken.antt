@@ -1,5 +1,6 @@
 -- A commit that both tables have taken, and one that isn't planned.
-use Rattle.std.specs.Prelude.{◌≡◌, ◌⊎◌, ◌+◌, ◌++◌, ℕ, List}
+use Rattle.std.specs.Prelude.{◌≡◌, ◌⊎◌, ◌+◌, ◌++◌, ℕ, Bool, Option, List}
+use Rattle.rule_model.specs.declared.IpVersion.{IpVersion}
 use Rattle.rule_store.specs.Verdict.{Verdict, Accepted}
 use Rattle.batch_order.specs.declared.Refusal.{Refusal}
 use Rattle.batch_order.specs.declared.Refusal.TheVariants as refusal
@@ -14,7 +15,9 @@ use Rattle.router.specs.declared.Side.TheVariants as side
 use Rattle.router.specs.declared.committing.Unplanned.{Unplanned}
 use Rattle.router.specs.declared.committing.Unplanned.TheVariants.{Memory, Refused}
 use Rattle.router.specs.Run.{DeviceSlots, drains_in, verdict_of}
-use Rattle.router.specs.Carried.{IsStuckAt}
+use Rattle.router.specs.declared.carrying.Halt.{Halt}
+use Rattle.router.specs.declared.carrying.Halt.TheVariants as halt
+use Rattle.router.specs.Carried.{AreTold, AreToldButOne, IsCutAt, IsStuckAt}
 use Rattle.router.specs.Routing.{IsIdle, IsRouter, Routing, progress_of, setting_of}
 
 -- the verdicts on both pending batches
@@ -72,6 +75,12 @@ pub record IsMadeBy (slots : DeviceSlots) (old : Routing) (drains : ℕ) (new : 
   pub list : after.list ≡ before.list ++ left_of slots.listed old.listed
   pub routes : after.routes ≡ before.routes ++ left_of slots.routed old.routed
 
+-- what was told of both, the list's first
+pub record AreBothTold (trace : Bool) (version : IpVersion) (from to : MadeOfBoth) (before after : Option (List ℕ)) : Type 0 where
+  pub between : Option (List ℕ)
+  pub list : AreTold trace version side.List from.list to.list before between
+  pub routes : AreTold trace version side.Routes from.routes to.routes between after
+
 -- or a part of the list's failed,
 pub record IsStuckInList (slots : DeviceSlots) (old new : Routing) (before after : MadeOfBoth) : Type 0 where
   pub stuck : IsStuckAt slots.listed old.listed new.listed before.list after.list
@@ -86,3 +95,24 @@ pub record IsStuckInRoutes (slots : DeviceSlots) (old new : Routing) (before aft
 
 abbrev pub IsStuckInEither : DeviceSlots → Routing → Routing → MadeOfBoth → MadeOfBoth → Type 0
 IsStuckInEither slots old new before after = IsStuckInList slots old new before after ⊎ IsStuckInRoutes slots old new before after
+
+-- or a line of the list's trace was refused, by either count of what the sink took,
+pub record IsCutInList (slots : DeviceSlots) (old new : Routing) (from to : MadeOfBoth) (before after : Bool → Option (List ℕ)) : Type 0 where
+  pub cut : IsCutAt slots.listed old.listed new.listed from.list to.list
+  pub new_is : new ≡ record old { listed = new.listed }
+  pub routes : to.routes ≡ from.routes
+  pub told : (which : Bool) → AreToldButOne old.trace old.version side.List from.list to.list (before which) (after which)
+
+-- or one of the routes'
+pub record IsCutInRoutes (slots : DeviceSlots) (old new : Routing) (from to : MadeOfBoth) (before after : Bool → Option (List ℕ)) : Type 0 where
+  pub cut : IsCutAt slots.routed old.routed new.routed from.routes to.routes
+  pub new_is : new ≡ record old { listed = finished_split slots.listed old.listed; routed = new.routed }
+  pub list : to.list ≡ from.list ++ left_of slots.listed old.listed
+  pub told : (which : Bool) → (between : Option (List ℕ)) × AreTold old.trace old.version side.List from.list to.list (before which) between
+      × AreToldButOne old.trace old.version side.Routes from.routes to.routes between (after which)
+
+-- why both weren't made to their ends, with what was told until then
+abbrev pub StopsBoth : Halt → DeviceSlots → Routing → Routing → MadeOfBoth → MadeOfBoth → (Bool → Option (List ℕ)) → (Bool → Option (List ℕ)) → Type 0
+StopsBoth halt.Device slots old new from to before after =
+    IsStuckInEither slots old new from to × ((which : Bool) → AreBothTold old.trace old.version from to (before which) (after which))
+StopsBoth halt.Sink slots old new from to before after = IsCutInList slots old new from to before after ⊎ IsCutInRoutes slots old new from to before after

@@ -1,12 +1,16 @@
 -- The lines of a router's report.
-use Rattle.std.specs.Prelude.{ℕ, List, [], ◌∷◌, ◌++◌, codes, decimal}
+use Rattle.std.specs.Prelude.{ℕ, ◌+◌, Some, None, List, [], ◌∷◌, ◌++◌, codes, decimal}
 use Rattle.rule_model.specs.RuleSet.{Answer}
 use Rattle.rule_model.specs.declared.IpVersion.{IpVersion}
 use Rattle.rule_model.specs.declared.IpVersion.TheVariants.{V4, V6}
 use Rattle.rule_store.specs.Verdict.{Verdict}
+use Rattle.split_device.specs.declared.SplitWrite.{SplitWrite}
+use Rattle.split_device.specs.declared.SplitWrite.TheVariants.{Slot, Result, Table}
+use Rattle.split_device.specs.declared.SplitAction.{SplitAction}
+use Rattle.split_device.specs.declared.SplitAction.TheVariants.{Written, Drained}
 use Rattle.report_lines.specs.declared.Family.{Family}
 use Rattle.report_lines.specs.declared.Family.TheVariants.{Route, Acl, Route6, Acl6}
-use Rattle.report_lines.specs.Text.{line_text, answer_words, reason_words}
+use Rattle.report_lines.specs.Text.{line_text, answer_words, family_version, field_text, reason_words, tag_text, word_text}
 use Rattle.router.specs.declared.Side.{Side}
 use Rattle.router.specs.declared.Side.TheVariants as side
 
@@ -48,3 +52,28 @@ end_line listed routed writes pending =
     line_text
     (codes "end" ∷ codes "list" ∷ decimal listed ∷ codes "route" ∷ decimal routed ∷ codes "writes" ∷ decimal writes
     ∷ codes "pending" ∷ decimal pending ∷ [])
+
+-- A part of a write, as words: a value and a mask that are put into a slot, a slot that is emptied, a result word, or a
+-- table's word.
+abbrev pub part_words : Family → SplitWrite → List (List ℕ)
+part_words family (Slot slot (Some (value, mask))) =
+    codes "slot" ∷ decimal slot ∷ codes "set" ∷ word_text (family_version family) value ∷ word_text (family_version family) mask ∷ []
+part_words family (Slot slot None) = codes "slot" ∷ decimal slot ∷ codes "erase" ∷ []
+part_words family (Result slot tag answer) = codes "result" ∷ decimal slot ∷ tag_text family tag ∷ decimal answer ∷ []
+part_words family (Table field port word) = codes "table" ∷ field_text field ∷ decimal port ∷ decimal word ∷ []
+
+-- the words of a part or a drain
+abbrev pub action_words : Family → SplitAction → List (List ℕ)
+action_words family (Written part) = part_words family part
+action_words family Drained = codes "drain" ∷ []
+
+-- how many parts of a table were made, behind so many, once this was made
+abbrev pub parts_behind : ℕ → SplitAction → ℕ
+parts_behind parts (Written part) = parts + 1
+parts_behind parts Drained = parts
+
+-- The line of a trace: of a part by its number among the parts of its table in the commit, from 1, and of a drain by how
+-- many parts come before it.
+abbrev pub action_line : IpVersion → Side → ℕ → SplitAction → List ℕ
+action_line version which number action =
+    line_text (codes "w" ∷ decimal number ∷ side_word which ∷ action_words (family_of version which) action)

@@ -1,6 +1,7 @@
 //! Both parts of a commit are planned, made and counted.
 
-ghost use Rattle.std.specs.Prelude.{◌≡◌, ◌+◌, ◌<◌, ◌≤◌, ◌^◌, [], ℕ, Err, None, IsErr, IsSome, IfOk, IfErr, OnOk, OnErr, length};
+ghost use Rattle.std.specs.Prelude.{◌≡◌, ◌+◌, ◌<◌, ◌≤◌, ◌^◌, [], ℕ, Bool, Err, None, IsSome, IfOk, IfErr, OnOk, OnErr, length};
+ghost use Rattle.call_history.specs.Cause.{IsCounted};
 ghost use Rattle.script_lines.specs.Given.{counted};
 ghost use Rattle.report_lines.specs.Outside.{WritesLine};
 ghost use Rattle.split_device.specs.Flight.{no_flight};
@@ -8,16 +9,15 @@ ghost use Rattle.split_order.specs.Left.{left_of};
 ghost use Rattle.router.specs.Text.{accepted_line};
 ghost use Rattle.router.specs.Routing.{slots_of, FitsBoth, IsIdle, IsRouter, Routing};
 ghost use Rattle.router.specs.Carried.{LeavesAll, LeavesDevice};
-ghost use Rattle.router.specs.Taken.{IsMadeBy, IsNotBusy, IsStuckInEither, AreBothTaken, IsUnplannedBy, made_on, unplanned_by};
+ghost use Rattle.router.specs.Taken.{AreBothTaken, AreBothTold, IsMadeBy, IsNotBusy, IsUnplannedBy, StopsBoth, made_on, unplanned_by};
 
 use crate::Side;
-use crate::carrying::carry;
-use crate::report::{CommitNumbers, write_accepted};
+use crate::carrying::{Halt, carry};
+use crate::report::{CommitNumbers, PartsTold, write_accepted};
 use crate::router::Router;
 use script_lines::{Failed, Sink};
 use split_device::SplitDevice;
 use split_order::{Refusal, Rejection};
-use tcam_device::DeviceFault;
 
 /// Why a commit isn't planned.
 #[derive(Clone, Copy, Debug, PartialEq, Eq)]
@@ -60,12 +60,14 @@ impl Router {
         }
     }
 
-    /// Makes the parts and drains of both tables, the list's first, and answers how many drains there were.
-    pub(crate) fn carry_both<D: SplitDevice>(
+    /// Makes the parts and drains of both tables, the list's first, each with its line where a trace is wanted, and answers how
+    /// many drains there were.
+    pub(crate) fn carry_both<D: SplitDevice, K: Sink>(
         &mut self,
         list: &mut D,
         routes: &mut D,
-    ) -> Result<u64, DeviceFault>
+        sink: &mut K,
+    ) -> Result<u64, Halt>
         requires slots { FitsBoth self.old (slots_of (D.slot_count list.old) (D.slot_count routes.old)) }
         requires list_flight { D.flight list.old ≡ no_flight }
         requires route_flight { D.flight routes.old ≡ no_flight }
@@ -76,18 +78,34 @@ impl Router {
             (made_on (D.events list.old) (D.events routes.old)) (made_on (D.events list.new) (D.events routes.new))) }
         ensures small { IfOk result (λ drains. drains < 2 ^ 44) }
         ensures router { IsRouter self.old }
-        ensures stuck { OnErr result (IsStuckInEither (slots_of (D.slot_count list.old) (D.slot_count routes.old)) self.old self.new
-            (made_on (D.events list.old) (D.events routes.old)) (made_on (D.events list.new) (D.events routes.new))) }
-        ensures list { LeavesDevice D.slot_count D.events D.flight D.faults list.old list.new (IsErr result × IsSome self.new.listed.whole.held) }
-        ensures routes { LeavesDevice D.slot_count D.events D.flight D.faults routes.old routes.new (IsErr result × (self.new.listed.whole.held ≡ None)) }
+        ensures lines { IfOk result (λ drains. (which : Bool) → AreBothTold self.old.trace self.old.version
+            (made_on (D.events list.old) (D.events routes.old)) (made_on (D.events list.new) (D.events routes.new))
+            (counted which (K.taken sink.old) (K.accepted sink.old)) (counted which (K.taken sink.new) (K.accepted sink.new))) }
+        ensures stopped { IfErr result (λ why. StopsBoth why (slots_of (D.slot_count list.old) (D.slot_count routes.old)) self.old self.new
+            (made_on (D.events list.old) (D.events routes.old)) (made_on (D.events list.new) (D.events routes.new))
+            (λ which. counted which (K.taken sink.old) (K.accepted sink.old)) (λ which. counted which (K.taken sink.new) (K.accepted sink.new))) }
+        ensures list { LeavesDevice D.slot_count D.events D.flight D.faults list.old list.new ((result ≡ Err Halt.Device) × IsSome self.new.listed.whole.held) }
+        ensures routes { LeavesDevice D.slot_count D.events D.flight D.faults routes.old routes.new ((result ≡ Err Halt.Device) × (self.new.listed.whole.held ≡ None)) }
+        ensures told { IsSome (K.taken sink.old) → IsSome (K.taken sink.new) }
+        ensures cause { IsCounted (result ≡ Err Halt.Sink) (K.faults sink.old) (K.faults sink.new) }
     {
-        let list_drains = match carry(&mut self.listed, list) {
-            Ok(drains) => drains,
-            Err(DeviceFault) => return Err(DeviceFault),
+        let of_list = PartsTold {
+            trace: self.trace,
+            version: self.version,
+            side: Side::List,
         };
-        match carry(&mut self.routed, routes) {
+        let of_routes = PartsTold {
+            trace: self.trace,
+            version: self.version,
+            side: Side::Routes,
+        };
+        let list_drains = match carry(&mut self.listed, list, &of_list, sink) {
+            Ok(drains) => drains,
+            Err(why) => return Err(why),
+        };
+        match carry(&mut self.routed, routes, &of_routes, sink) {
             Ok(drains) => Ok(list_drains + drains),
-            Err(DeviceFault) => Err(DeviceFault),
+            Err(why) => Err(why),
         }
     }
 

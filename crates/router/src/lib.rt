@@ -30,6 +30,8 @@
 //! - **Nothing may be in flight while no commit is unfinished**: a router begins no look-up of three events, so no drain
 //!   waits. Who drives look-ups beside a commit has [`drive_split`] for one table.
 //! - **`Memory` comes only where the list's verdict takes the batch**, and before any part.
+//! - **A trace line is written behind its part**, one call of the sink for each: where it is refused the part was made, and the
+//!   rest of the commit is held, also where nothing is left of it.
 //! - **`Held` is the end of a router**: it tells how many parts are left of both tables, and there is no call that goes on.
 //!   The devices answer old or new then, so they may be left as they are, or be read by whoever mends them.
 //! - **Each table's insertions go where the placement says, and no slot past those in use is written**: both are said of a

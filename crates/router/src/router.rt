@@ -15,6 +15,7 @@ ghost use Rattle.router.specs.Carried.{LeavesDevice};
 ghost use Rattle.router.specs.Taken.{AreBothTaken};
 ghost use Rattle.router.specs.Acting.{AnswersHeld, ComesTo, FailedAt, IsNotHeld, outside};
 
+use crate::carrying::Halt;
 use crate::committing::Unplanned;
 use crate::report::{Totals, write_end, write_packet, write_refused};
 use crate::{RouterAct, RouterFault, Side};
@@ -26,7 +27,6 @@ use split_device::SplitDevice;
 use split_order::{Mode, Placement, Rejection, SplitManager};
 use std::alloc::{AllocError, Global};
 use std::marker::Model;
-use tcam_device::DeviceFault;
 
 /// A router: the manager and the pending batch of each table, and what the report counts.
 #[derive(Drop)]
@@ -35,7 +35,9 @@ pub struct Router {
     pub(crate) routed: SplitManager,
     pub(crate) list_batch: Batch,
     pub(crate) route_batch: Batch,
-    version: IpVersion,
+    pub(crate) version: IpVersion,
+    /// Whether each part of a commit has a line.
+    pub(crate) trace: bool,
     pub(crate) commits: u32,
     pub(crate) writes: u128,
     refused: bool,
@@ -48,25 +50,27 @@ impl Model for Router {
 
     ghost Value = { Routing };
 
-    ghost view = { λ r. record { listed = r.listed; routed = r.routed; list_batch = r.list_batch; route_batch = r.route_batch; version = r.version; commits = r.commits; writes = r.writes; refused = r.refused; broken = r.broken } };
+    ghost view = { λ r. record { listed = r.listed; routed = r.routed; list_batch = r.list_batch; route_batch = r.route_batch; version = r.version; trace = r.trace; commits = r.commits; writes = r.writes; refused = r.refused; broken = r.broken } };
 
-    ghost invariant = { λ r. IsRouter (record { listed = r.listed; routed = r.routed; list_batch = r.list_batch; route_batch = r.route_batch; version = r.version; commits = r.commits; writes = r.writes; refused = r.refused; broken = r.broken }) };
+    ghost invariant = { λ r. IsRouter (record { listed = r.listed; routed = r.routed; list_batch = r.list_batch; route_batch = r.route_batch; version = r.version; trace = r.trace; commits = r.commits; writes = r.writes; refused = r.refused; broken = r.broken }) };
 }
 
 impl Router {
     /// A router before its first act, over two blank devices with so many slots in use of each, 1 to 4,096: no rules, and no
     /// change pending. The mode says how port ranges are tested, and the placement where an insertion of either table aims. Of
-    /// the version of IP are the routes that it takes, and by it the report names rules. It fails only for want of memory.
+    /// the version of IP are the routes that it takes, and by it the report names rules. With a trace each part that is made of
+    /// a device has a line, and each drain. It fails only for want of memory.
     pub fn new(
         alloc: Global,
         slots: u32,
         mode: Mode,
         placement: Placement,
         version: IpVersion,
+        trace: bool,
     ) -> Result<Router, AllocError>
         requires least { 1 ≤ slots }
         requires most { slots ≤ MOST_SLOTS }
-        ensures begun { IfOk result (λ router. router ≡ begun slots mode placement version) }
+        ensures begun { IfOk result (λ router. router ≡ begun slots mode placement version trace) }
         ensures starts { IfOk result (λ router. progress_of router ≡ start) }
     {
         Ok(Router {
@@ -75,6 +79,7 @@ impl Router {
             list_batch: Batch::new(alloc),
             route_batch: Batch::new(alloc),
             version,
+            trace,
             commits: 0,
             writes: 0,
             refused: false,
@@ -93,18 +98,19 @@ impl Router {
     ///
     /// A commit is judged by the set, the batch and the slots of each table alone, the list's first. Where one is refused
     /// neither device is written: a line is written with the table and its first reason, and both sets stay. Where both are
-    /// accepted the list's parts and drains are made one at a time, and then the routes'; none of them leaves a state of its
-    /// device in which a key gets another answer than that of the old set of its table or of the new one. Then both sets are
-    /// those after their batches, and the commit's line is written, with the parts of each table and the drains of both.
+    /// accepted the list's parts and drains are made one at a time, and then the routes', each with its line behind it where a
+    /// trace is wanted; none of them leaves a state of its device in which a key gets another answer than that of the old set
+    /// of its table or of the new one. Then both sets are those after their batches, and the commit's line is written, with the
+    /// parts of each table and the drains of both.
     /// Either kind of commit is counted, and drops both batches.
     ///
-    /// `Held` comes exactly where a commit is unfinished after `Device`, before any other answer, with the parts that are left
-    /// of both tables; nothing has changed. `Memory` comes at a change, or at a commit whose batch the list accepts; nothing
-    /// has changed. `Sink` comes exactly where the sink's count of failures rose: all that comes before the line was done,
-    /// and a part of the line was taken, perhaps none or all of it. No call may follow it. `Device` comes where one part failed
-    /// four times, and its device's count of failures rose by that: the parts before the failed one were made, and the
-    /// commit's line wasn't written. The rest of it is held, of both tables. A part that fails less often is made, once, and
-    /// its failures show in the device's count alone.
+    /// `Held` comes exactly where a commit is unfinished after `Device`, before any other answer, with the parts that are
+    /// left of both tables; nothing has changed. `Memory` comes at a change, or at a commit whose batch the list accepts;
+    /// nothing has changed. `Sink` comes exactly where the sink's count of failures rose: all that comes before the line
+    /// was done, with a trace perhaps a part of a commit, and a part of the line was taken, perhaps none or all of it. No
+    /// call may follow it. `Device` comes where one part failed four times, and its device's count of failures rose by
+    /// that: the parts before the failed one were made, and the commit's line wasn't written. The rest of it is held, of
+    /// both tables. A part that fails less often is made, once, and its failures show in the device's count alone.
     pub fn apply<K: Sink, D: SplitDevice>(
         &mut self,
         act: &RouterAct,
@@ -303,9 +309,10 @@ impl Router {
         ensures told { IsSome (K.taken sink.old) → IsSome (K.taken sink.new) }
         ensures cause { IsCounted (result ≡ Err RouterFault.Sink) (K.faults sink.old) (K.faults sink.new) }
     {
-        let drains = match self.carry_both(list, routes) {
+        let drains = match self.carry_both(list, routes, sink) {
             Ok(drains) => drains,
-            Err(DeviceFault) => return Err(RouterFault::Device),
+            Err(Halt::Device) => return Err(RouterFault::Device),
+            Err(Halt::Sink) => return Err(RouterFault::Sink),
         };
         let told = self.tell_made(listed, routed, drains, sink);
         self.count_writes(listed, routed);

@@ -12,35 +12,39 @@ use clap::error::ErrorKind;
 use clap::{ArgMatches, Command, Error};
 use option_words::{
     Mode, Placement, WordsFault, mode_named, number_of, placement_arg, placement_of, ranges_arg,
-    slots_arg, text_of,
+    slots_arg, text_of, trace_arg,
 };
+use rule_model::IpVersion;
 use slot_order::MOST_SLOTS;
 use std::alloc::{AllocError, Global};
 
 /// What a command line asks for.
 #[derive(Clone, Copy, Debug, PartialEq, Eq)]
 pub enum RouterAsked {
-    /// A router's script from the source, with so many slots of each device in use, 1 to 4,096, where port ranges are
-    /// tested as the mode says and each insertion aims as the placement says.
+    /// A router's script of a version of IP from the source, with so many slots of each device in use, 1 to 4,096, where
+    /// port ranges are tested as the mode says and each insertion aims as the placement says, with a trace or without.
     Script {
+        version: IpVersion,
         slots: u32,
         mode: Mode,
         placement: Placement,
+        trace: bool,
     },
     /// The help.
     Help,
 }
 
-/// The subcommand.
-fn router_command<'a>(alloc: Global) -> Result<Command<'a>, AllocError>
-    ensures app { IfOk result (λ c. app_of c ≡ router_app) }
+/// A subcommand for a router's scripts, by its name.
+fn router_command<'a>(alloc: Global, name: &'a str) -> Result<Command<'a>, AllocError>
+    ensures app { IfOk result (λ c. app_of c ≡ router_app name.entry.now) }
     ensures local { IfOk result (λ c. (out-Command c).has_globals ≡ false) }
 {
     Ok(
-        Command::new(alloc, "router")
+        Command::new(alloc, name)
             .arg(slots_arg(alloc))?
             .arg(ranges_arg(alloc))?
-            .arg(placement_arg(alloc))?,
+            .arg(placement_arg(alloc))?
+            .arg(trace_arg(alloc))?,
     )
 }
 
@@ -52,7 +56,8 @@ fn line_command<'a>(alloc: Global) -> Result<Command<'a>, AllocError>
         Command::new(alloc, "tcam")
             .subcommand_required(true)
             .disable_help_subcommand(true)
-            .subcommand(router_command(alloc)?)?,
+            .subcommand(router_command(alloc, "router")?)?
+            .subcommand(router_command(alloc, "router6")?)?,
     )
 }
 
@@ -84,21 +89,24 @@ fn job_of_matches(matches: &ArgMatches) -> Option<RouterAsked>
     ensures within { IfSome result IsRouterAskedInRange }
 {
     match matches.subcommand() {
-        Some((name, found)) if name == "router" => job_of_script(found),
+        Some((name, found)) if name == "router" => job_of_script(IpVersion::V4, found),
+        Some((name, found)) if name == "router6" => job_of_script(IpVersion::V6, found),
         _ => None,
     }
 }
 
-/// The job of the subcommand's arguments.
-fn job_of_script(found: &ArgMatches) -> Option<RouterAsked>
-    ensures asked { IfSome result (λ job. tested_at (number_given 1 most_slots (codes "slots") (rows_of (found_of found.now))) (rows_of (found_of found.now)) ≡ router_asked_by job) }
-    ensures none { IsNone result → tested_at (number_given 1 most_slots (codes "slots") (rows_of (found_of found.now))) (rows_of (found_of found.now)) ≡ NoJob }
+/// The job of the arguments of the subcommand for scripts of this version.
+fn job_of_script(version: IpVersion, found: &ArgMatches) -> Option<RouterAsked>
+    ensures asked { IfSome result (λ job. tested_at version (number_given 1 most_slots (codes "slots") (rows_of (found_of found.now))) (rows_of (found_of found.now)) ≡ router_asked_by job) }
+    ensures none { IsNone result → tested_at version (number_given 1 most_slots (codes "slots") (rows_of (found_of found.now))) (rows_of (found_of found.now)) ≡ NoJob }
     ensures within { IfSome result IsRouterAskedInRange }
 {
     Some(RouterAsked::Script {
+        version,
         slots: number_of(text_of(found, "slots"), 1, MOST_SLOTS)?,
         mode: mode_named(text_of(found, "ranges"))?,
         placement: placement_of(text_of(found, "placement"))?,
+        trace: text_of(found, "trace") == "true",
     })
 }
 

@@ -1,4 +1,4 @@
-//! The command line of a router's scripts, `tcam router`, and its top call.
+//! The command line of a router's scripts, `tcam router` and `tcam router6`, and its top call.
 //!
 //! # The one hard idea
 //! The promise is a clause of one function, [`run_router`], over any source, sink and devices, by what its words ask for: of a
@@ -9,11 +9,11 @@
 //! `top` does what is asked for.
 //!
 //! # Decided
-//! - **`router` is declared here alone**, and is no command line of `tcam_cli::run`: so neither top call stands on the other,
-//!   and a program that leads one table needs none of two. `main` chooses by the first word behind the program's name, and
-//!   each of the two refuses what is the other's.
+//! - **`router` and `router6` are declared here alone**, and are no command line of `tcam_cli::run`: so neither top call stands
+//!   on the other, and a program that leads one table needs none of two. The second takes the same words, of IPv6. `main`
+//!   chooses by the first word behind the program's name, and each of the two calls refuses what is the other's.
 //! - **`--help` prints this text, and `--version` is no word here**: name and version are the program's.
-//! - **There is no `--trace`, `--depth` or `--json`**: the report of a router has no line of a write, and its scripts no probe.
+//! - **There is no `--depth` or `--json`**: a router's scripts have no probe, and a trace file is of one table.
 #![tactic(auto)]
 
 mod command_line;

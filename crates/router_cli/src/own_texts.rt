@@ -3,9 +3,10 @@
 /// The help of a router's script.
 pub const ROUTER_HELP: &str = "\
 tcam router: carries out a script of two tables, an access list and routes,
-each over a device of its own, and writes a report.
+each over a device of its own, and writes a report; router6 one of IPv6.
 
-    tcam router [--slots N] [--ranges R] [--placement P] < FILE
+    tcam router [--slots N] [--ranges R] [--placement P] [--trace] < FILE
+    tcam router6 [--slots N] [--ranges R] [--placement P] [--trace] < FILE
 
 Commands of a script, one a line, with the source's side and ports first:
     acl add SEQ ACTION SIDE SIDE PROTOSPEC PORTSPEC PORTSPEC
@@ -20,11 +21,11 @@ Commands of a script, one a line, with the source's side and ports first:
     commit                     carries out all changes since the last, the
                                list's and then the routes', or none of either
     packet SRC DST PROTO SPORT DPORT    looks this packet up in both tables
-    frame HEX                           looks up an IPv4 packet in hexadecimal
+    frame HEX                           looks up an IP packet in hexadecimal
     # TEXT                              a comment
 
     SEQ            the rule's place in the list, from 1 to 4294967295
-    ACTION         permit or deny
+    ACTION         permit, deny or =NUMBER
     SIDE           any, or a prefix as 10.0.0.0/8 or 10.0.0.1/32
     PROTOSPEC      any, or a PROTO: icmp, tcp, udp, or a number up to 255
     PORTSPEC       any, a port up to 65535, or two of them as 1024-65535
@@ -33,10 +34,14 @@ Commands of a script, one a line, with the source's side and ports first:
     SRC, DST       an address, as 10.1.2.3
     SPORT, DPORT   a number up to 65535
 
+In a script of router6 each address is one of IPv6, as 2001:db8::1, and the
+length of a prefix is at most 128.
+
 Options, of which tcam --help says more:
     --slots N        N slots of each device in use, 1 to 4096, by default 4096
     --ranges R       how port ranges are tested: cover, the default, or bits
     --placement P    where a new entry aims: middle, the default, rank or ends
+    --trace          a line for each device write and drain
 
 Example of a script, whose packet gets the answers 10 permit and 10.0.0.0/8 7:
     acl add 10 permit any 10.0.0.0/8 tcp any 443

@@ -16,7 +16,6 @@ use option_words::WordsFault;
 use report_lines::write_text;
 use router::Router;
 use router_runs::run_router_script;
-use rule_model::IpVersion;
 use script_lines::{Failed, Sink, Source};
 use script_runs::Status;
 use slot_order::MOST_SLOTS;
@@ -29,16 +28,17 @@ use std::alloc::Global;
 ///
 /// Between any two parts or drains of a device an undivided look-up of every key gets the answer of one of its table's sets
 /// or of the next one, in order. A set changes only by a commit that neither table refuses; a refused commit writes nothing
-/// to either device.
+/// to either device. Where a part or a line of a trace fails, one table at most is left within a commit.
 ///
-/// The answer is `Done` or `Refused` where the script was read to its end, `Refused` where some commit was refused by either
-/// table; `Script` where a line is at fault, which the last line of the report names. `ReadFault` and `WriteFault` come
-/// exactly where the count of failures of source or sink rose. A part that fails is tried again at once, four times in all;
-/// `DeviceFault` comes where the fourth failed too, and the count of that device's failures rose by it. After any of the three
-/// nothing more is read, written or printed. `Memory` comes for want of memory alone, before a commit's first part. `Usage`
-/// comes where the words are no command line, and there nothing else comes but a failing sink and want of memory. No input is
-/// taken in vain: of the lines that were whole before the last read none is at fault or wants memory, both devices' events and
-/// the accepted report begin with their effects, and no read before it was the end of the input.
+/// The answer is `Done` or `Refused` where the script was read to its end, `Refused` where some commit was refused by
+/// either table; `Script` where a line is at fault, which the last line of the report names. `ReadFault` and `WriteFault`
+/// come exactly where the count of failures of source or sink rose. A part that fails is tried again at once, four times in
+/// all; `DeviceFault` comes where the fourth failed too, and the count of that device's failures rose by it: a part of it
+/// is what would come next. After any of the three nothing more is read, written or printed. `Memory` comes for want of
+/// memory alone, before a commit's first part. `Usage` comes where the words are no command line, and there nothing else
+/// comes but a failing sink and want of memory. No input is taken in vain: of the lines that were whole before the last
+/// read none is at fault or wants memory, both devices' events and the accepted report begin with their effects, and no
+/// read before it was the end of the input.
 pub fn run_router<S: Source, K: Sink, D: SplitDevice>(
     alloc: Global,
     words: &[String],
@@ -60,18 +60,20 @@ pub fn run_router<S: Source, K: Sink, D: SplitDevice>(
         (S.given source.old) (S.given source.new) (made_on (D.events list.new) (D.events routes.new)) (K.accepted sink.old) (K.accepted sink.new) }
     ensures told { (IsSome (S.left source.old) → IsSome (S.left source.new)) × (IsSome (K.taken sink.old) → IsSome (K.taken sink.new)) }
     ensures slot_counts { (D.slot_count list.new ≡ D.slot_count list.old) × (D.slot_count routes.new ≡ D.slot_count routes.old) }
-    ensures causes { HasRouterJobCauses (router_job (map (λ w. string_bytes w) words.now)) (S.left source.old) result (made_on (D.events list.new) (D.events routes.new))
+    ensures causes { HasRouterJobCauses (router_job (map (λ w. string_bytes w) words.now)) (slots_of (D.slot_count list.old) (D.slot_count routes.old)) (S.left source.old) result (made_on (D.events list.new) (D.events routes.new))
         (failures_of (S.faults source.old) (K.faults sink.old) (D.faults list.old) (D.faults routes.old))
         (failures_of (S.faults source.new) (K.faults sink.new) (D.faults list.new) (D.faults routes.new)) }
 {
     match read_router_words(alloc, words) {
         Ok(
             RouterAsked::Script {
+                version,
                 slots,
                 mode,
                 placement,
+                trace,
             },
-        ) => match Router::new(alloc, slots, mode, placement, IpVersion::V4) {
+        ) => match Router::new(alloc, slots, mode, placement, version, trace) {
             Ok(mut router) => run_router_script(&mut router, source, sink, list, routes),
             Err(_) => Status::Memory,
         },

@@ -12,7 +12,8 @@ use Rattle.split_device.specs.State.{SplitState, split_after, split_apply}
 use Rattle.split_device.specs.Flight.{written}
 use Rattle.split_writes.proofs.Made.{written_append}
 use Rattle.split_writes.proofs.Undivided.{after_append}
-use Rattle.router_runs.specs.AllTheWay.{LooksUpAllTheWay, AreLookedUpInTurn, EndsAtLastSet, IsFirstPlacePast, LooksUp, LooksUpEither, LooksUpSetOrNext, state_past}
+use Rattle.script_runs.specs.Places.{IsFirstPast}
+use Rattle.router_runs.specs.AllTheWay.{LooksUpAllTheWay, AreLookedUpInTurn, EndsAtLastSet, LooksUp, LooksUpEither, LooksUpSetOrNext, state_past}
 
 -- ---- the state past some events
 
@@ -65,7 +66,7 @@ later-answers state event sets events place here more (suc n) =
     subst (λ (now : SplitState). LooksUpSetOrNext now sets (place n)) (sym (past-first state event (take n events))) (more n)
 
 later-whole : (state : SplitState) (event : SplitAction) (sets : List (List Rule)) (events : List SplitAction) (more : LooksUpAllTheWay (past_one state event) sets events)
-    → (k n : ℕ) (rules : List Rule) → slice_get sets (suc k) ≡ Some rules → IsFirstPlacePast (later more.place) k n → LooksUp (state_past state (take n (event ∷ events))) rules
+    → (k n : ℕ) (rules : List Rule) → slice_get sets (suc k) ≡ Some rules → IsFirstPast (later more.place) k n → LooksUp (state_past state (take n (event ∷ events))) rules
 later-whole state event sets events more k zero rules is past = absurd (let none : k < 0 = past.0 in omega arith)
 later-whole state event sets events more k (suc n) rules is past =
     subst (λ (now : SplitState). LooksUp now rules) (sym (past-first state event (take n events))) (more.whole k n rules is (past.0, λ m less. past.1 (suc m) (omega arith)))
@@ -88,7 +89,7 @@ next-set old sets place state is =
 
 past-whole : (state : SplitState) (old : List Rule) (sets : List (List Rule)) (events : List SplitAction) → ((rules : List Rule) → slice_get sets 0 ≡ Some rules → LooksUp state rules)
     → (is : LooksUpAllTheWay state sets events)
-    → (k n : ℕ) (rules : List Rule) → slice_get (old ∷ sets) (suc k) ≡ Some rules → IsFirstPlacePast (λ n. suc (is.place n)) k n → LooksUp (state_past state (take n events)) rules
+    → (k n : ℕ) (rules : List Rule) → slice_get (old ∷ sets) (suc k) ≡ Some rules → IsFirstPast (λ n. suc (is.place n)) k n → LooksUp (state_past state (take n events)) rules
 past-whole state old sets events first is zero zero rules here past = first rules here
 past-whole state old sets events first is zero (suc n) rules here past = absurd (let none : suc (is.place 0) ≤ 0 = past.1 0 (omega arith) in omega arith)
 past-whole state old sets events first is (suc k) n rules here past =
@@ -124,7 +125,7 @@ min-most n most within = let low = min-le_right n most in let high = le-min with
 
 -- some first events
 cut-whole : (state : SplitState) (sets : List (List Rule)) (front back : List SplitAction) (is : LooksUpAllTheWay state sets (front ++ back))
-    → (k n : ℕ) (rules : List Rule) → slice_get sets (suc k) ≡ Some rules → IsFirstPlacePast (λ n. is.place (min n (length front))) k n → LooksUp (state_past state (take n front)) rules
+    → (k n : ℕ) (rules : List Rule) → slice_get sets (suc k) ≡ Some rules → IsFirstPast (λ n. is.place (min n (length front))) k n → LooksUp (state_past state (take n front)) rules
 cut-whole state sets front back is k n rules here past = elim (cases_lt (length front) n) [
   | inl beyond ↦
       absurd (let few : is.place (min (length front) (length front)) ≤ k = past.1 (length front) beyond in

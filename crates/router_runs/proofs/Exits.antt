@@ -1,5 +1,5 @@
 -- What a round comes to, by what its act answers.
-use Rattle.std.proofs.Common.{◌≡◌, inl, inr, ℕ, Option, Some, None, Ok, List, [], refl, sym, subst, append-nil}
+use Rattle.std.proofs.Common.{◌≡◌, inl, inr, ℕ, Option, Some, None, Ok, List, [], ◌++◌, refl, sym, subst, append-nil}
 use Rattle.std.proofs.KnownBytes.{Appends-nil}
 use Rattle.script_lines.specs.declared.Line.{Line}
 use Rattle.script_lines.specs.declared.Over.TheVariants as over
@@ -13,7 +13,7 @@ use Rattle.script_runs.specs.Rounds as rounds
 use Rattle.script_runs.specs.Rounds.{acts_only, Closes, EndsRun, Grows, RunsOn, SoFar, WantsNext}
 use Rattle.script_runs.proofs.Endings.{line-outcome, memory-outcome, write-outcome}
 use Rattle.script_runs.proofs.Exits as exits
-use Rattle.script_runs.proofs.Joined.{closes-grows}
+use Rattle.script_runs.proofs.Joined.{closes-grows, does-events}
 use Rattle.script_runs.proofs.NextLines.{HandsOne}
 use Rattle.split_device.specs.declared.SplitWrite.{SplitWrite}
 use Rattle.router.specs.declared.Side.{Side}
@@ -24,6 +24,7 @@ use Rattle.router.specs.Acting.{Carries, CutsAtLine, CutsAtPart, Does, Outside}
 use Rattle.router.specs.Taken.{MadeOfBoth, made_on}
 use Rattle.router_runs.specs.Scripts.{router_scripts}
 use Rattle.router_runs.specs.Runs.{made_then, pending_at, router_kind}
+use Rattle.router_runs.specs.Promise.{IsPartDue}
 use Rattle.router_runs.proofs.Kind.{does-of, joins}
 use Rattle.router_runs.proofs.OneMore.{step-pending}
 
@@ -79,13 +80,23 @@ module _ (reading : Reading RouterAct) (setting : Setting) (slots : DeviceSlots)
       (λ e. elim e [ inl d ↦ absurd (cc) | inr r ↦ absurd (cc) ])
 
   -- at a part,
-  pub exit-part : (taken : List ℕ) (parts : Option ℕ) → CutsAtPart setting slots last act parts before after → EndsRun kind bytes taken now DeviceFault (made_in after) start after.taken
-  exit-part taken parts cuts =
+  pub exit-part : (taken : List ℕ) (which : Side) (parts : Option ℕ) → CutsAtPart setting slots last act which parts before after → EndsRun kind bytes taken now DeviceFault (made_in after) start after.taken
+  exit-part taken which parts cuts =
       exits.exit-stopped kind joins bytes old left last (made_in before) start before.taken s line new now again hands act is room (made_in after) after.taken taken DeviceFault
       (λ later acts.
       write-outcome kind joins (script_of (router_scripts reading) bytes) (script_so_far (router_scripts reading) taken) (acts_only s.acts) s.effects last (made_in before) start before.taken s.run s.events_is s.report
-      act later acts (made_in after) after.taken cuts.front [] (as-kind cuts.front [] cuts.does) (cuts.which, cuts.part) refl cuts.cut)
+      act later acts (made_in after) after.taken cuts.front [] (as-kind cuts.front [] cuts.does) (which, cuts.part) refl cuts.cut)
       (λ e. elim e [ inl d ↦ absurd (cc) | inr r ↦ absurd (cc) ])
+
+  -- which is due then,
+  pub due-part : (which : Side) (parts : Option ℕ) → CutsAtPart setting slots last act which parts before after → IsPartDue kind which bytes (made_in after)
+  due-part which parts cuts =
+      let next = exits.next-act kind joins bytes old left last (made_in before) start before.taken s line new now again hands act is room (made_in after) after.taken in (
+        s.effects ++ cuts.front,
+        cuts.part,
+        inl (record { done = acts_only s.acts; act = act; later = next.0; acts = next.1; body = s.effects; before = last; run = s.run; front = cuts.front; cut = cuts.cut; effects_are = refl }),
+        does-events kind joins s.effects cuts.front [] (made_in before) (made_in after) before.taken after.taken (as-kind cuts.front [] cuts.does) s.events_is,
+      )
 
   -- or for want of memory
   pub exit-memory : (taken : List ℕ) → TakesMemory setting last act → after ≡ before → EndsRun kind bytes taken now Memory (made_in after) start after.taken

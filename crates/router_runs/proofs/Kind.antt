@@ -1,5 +1,5 @@
 -- A router's runs as a kind of runs: what the lemmas of script_runs ask of them.
-use Rattle.std.proofs.Common.{◌≡◌, ℕ, List, [], ◌∷◌, ◌++◌, refl, sym, ap, ap₂, ◌∙◌, append_assoc, append-nil}
+use Rattle.std.proofs.Common.{◌≡◌, ℕ, List, [], ◌∷◌, ◌++◌, refl, ap, ap₂, append_assoc, append-nil}
 use Rattle.script_runs.specs.Script.{Reading}
 use Rattle.script_runs.specs.Rounds as rounds
 use Rattle.script_runs.specs.Rounds.{Grows}
@@ -10,6 +10,7 @@ use Rattle.router.specs.declared.RouterAct.{RouterAct}
 use Rattle.router.specs.Run.{DeviceSlots, Effect, Makes, Prints, Setting, made_of_list, made_of_routes, printed}
 use Rattle.router.specs.Acting.{Does, Outside}
 use Rattle.router.specs.Taken.{made_on}
+use Rattle.router.proofs.Effects.{printed_append}
 use Rattle.router_runs.specs.Runs.{made_of_both, made_then, router_kind}
 
 pub list-append : (front back : List Effect) → made_of_list (front ++ back) ≡ made_of_list front ++ made_of_list back
@@ -24,18 +25,13 @@ routes-append (Makes side.List action ∷ front) back = routes-append front back
 routes-append (Makes side.Routes action ∷ front) back = ap (λ (made : List SplitAction). action ∷ made) (routes-append front back)
 routes-append (Prints line ∷ front) back = routes-append front back
 
-printed-append : (front back : List Effect) → printed (front ++ back) ≡ printed front ++ printed back
-printed-append [] back = refl
-printed-append (Makes which action ∷ front) back = printed-append front back
-printed-append (Prints line ∷ front) back = ap (λ (text : List ℕ). line ++ text) (printed-append front back) ∙ sym (append_assoc line (printed front) (printed back))
-
 pub joins : AreJoined Prints printed made_of_both made_then
 joins = record {
   assoc = λ first second third. ap₂ made_on (append_assoc first.list second.list third.list) (append_assoc first.routes second.routes third.routes);
   none = λ events. ap₂ made_on (append-nil events.list) (append-nil events.routes);
   events_append = λ front back. ap₂ made_on (list-append front back) (routes-append front back);
   events_line = λ text. refl;
-  printed_append = printed-append;
+  printed_append = printed_append;
   printed_line = λ text. append-nil text;
 }
 

@@ -6,14 +6,45 @@ use Rattle.batch_order.specs.Managed.{HeldCommit}
 use Rattle.split_device.specs.declared.SplitAction.{SplitAction}
 use Rattle.split_device.specs.Flight.{Flight, written}
 use Rattle.split_writes.proofs.Made.{written_append}
+use Rattle.router.specs.declared.Side.{Side}
 use Rattle.router.specs.declared.Side.TheVariants as side
 use Rattle.router.specs.declared.RouterFault.{RouterFault}
 use Rattle.router.specs.declared.RouterFault.TheVariants.{Device}
 use Rattle.router.specs.Routing.{Routing}
 use Rattle.router.specs.Carried.{LeavesDevice}
-use Rattle.router.specs.Acting.{FailedAt}
-use Rattle.router.proofs.Parts.{leaves_same, not_held}
+use Rattle.router.specs.Acting.{FailedAt, failed_side}
+use Rattle.router.proofs.Parts.{leaves_same}
+use Rattle.router.proofs.Cutting.{list_failed, routes_failed}
 use Rattle.router_runs.specs.Rounds.{LeavesBoth}
+
+-- ---- which device failed
+
+-- what says of each device whether it failed, by whether one did, and which
+abbrev pub FailsOf : Type 0 → Side → Side → Type 0
+FailsOf Stuck failed which = Stuck × (failed ≡ which)
+
+pub never-fails : (Stuck : Type 0) (failed : Side) → (Stuck → ⊥) → (which : Side) → FailsOf Stuck failed which → ⊥
+never-fails Stuck failed never which fails = never fails.0
+
+pub fails-as : (A B : Type 0) (failed : Side) → (A → B) → (which : Side) → FailsOf A failed which → FailsOf B failed which
+fails-as A B failed to which fails = (to fails.0, fails.1)
+
+-- the list where its plan is held still, and else the routes
+held-of : (router : Routing) → failed_side router ≡ side.List → IsSome router.listed.whole.held
+held-of router same = by router.listed.whole.held refl
+  where
+    by : (held : Option HeldCommit) → router.listed.whole.held ≡ held → IsSome router.listed.whole.held
+    by (Some one) is = subst (λ (held : Option HeldCommit). IsSome held) (sym is) refl
+    by None is = absurd (let wrong : side.Routes ≡ side.List = routes_failed router is ∙ same in cc)
+
+none-of : (router : Routing) → failed_side router ≡ side.Routes → router.listed.whole.held ≡ None
+none-of router same = by router.listed.whole.held refl
+  where
+    by : (held : Option HeldCommit) → router.listed.whole.held ≡ held → router.listed.whole.held ≡ None
+    by (Some one) is = absurd (let wrong : side.List ≡ side.Routes = list_failed router (subst (λ (held : Option HeldCommit). IsSome held) (sym is) refl) ∙ same in cc)
+    by None is = is
+
+-- ---- what is left of them
 
 -- no part is tried
 tried-none : (Stuck : Type 0) (count : ℕ) → (Stuck → ⊥) → IsTried 4 0 Stuck count count
@@ -58,62 +89,47 @@ module _ {D : Type 0} (slots : D → ℕ) (events : D → List SplitAction) (fli
   }
 
   -- neither device is touched
-  pub both-still : (list routes : D) (Failed : Type 0) → (Failed → ⊥) → LeavesBoth slots events flight faults list list routes routes Failed
-  both-still list routes Failed never = record {
-    which = side.List;
-    list = leaves-still list (Failed × (side.List ≡ side.List)) (λ failed. never failed.0);
-    routes = leaves-still routes (Failed × (side.List ≡ side.Routes)) (λ failed. never failed.0);
-  }
+  pub both-still : (list routes : D) (Failed : Side → Type 0) → ((which : Side) → Failed which → ⊥) → LeavesBoth slots events flight faults list list routes routes Failed
+  both-still list routes Failed never =
+      record { list = leaves-still list (Failed side.List) (never side.List); routes = leaves-still routes (Failed side.Routes) (never side.Routes) }
 
   -- a call by which neither failed, and then another
-  pub both-then : (list_old list_mid list_new routes_old routes_mid routes_new : D) (A B : Type 0) → (A → ⊥) → LeavesBoth slots events flight faults list_old list_mid routes_old routes_mid A
-      → LeavesBoth slots events flight faults list_mid list_new routes_mid routes_new B → LeavesBoth slots events flight faults list_old list_new routes_old routes_new B
+  pub both-then : (list_old list_mid list_new routes_old routes_mid routes_new : D) (A B : Side → Type 0) → ((which : Side) → A which → ⊥)
+      → LeavesBoth slots events flight faults list_old list_mid routes_old routes_mid A → LeavesBoth slots events flight faults list_mid list_new routes_mid routes_new B
+      → LeavesBoth slots events flight faults list_old list_new routes_old routes_new B
   both-then list_old list_mid list_new routes_old routes_mid routes_new A B went was is = record {
-    which = is.which;
-    list = leaves-then list_old list_mid list_new (A × (was.which ≡ side.List)) (B × (is.which ≡ side.List)) (λ failed. went failed.0) was.list is.list;
-    routes = leaves-then routes_old routes_mid routes_new (A × (was.which ≡ side.Routes)) (B × (is.which ≡ side.Routes)) (λ failed. went failed.0) was.routes is.routes;
+    list = leaves-then list_old list_mid list_new (A side.List) (B side.List) (went side.List) was.list is.list;
+    routes = leaves-then routes_old routes_mid routes_new (A side.Routes) (B side.Routes) (went side.Routes) was.routes is.routes;
   }
 
-  -- a failure that comes exactly where that one does
-  pub both-as : (list_old list_new routes_old routes_new : D) (A B : Type 0) → (A → B) → (B → A) → LeavesBoth slots events flight faults list_old list_new routes_old routes_new A
-      → LeavesBoth slots events flight faults list_old list_new routes_old routes_new B
+  -- failures that come exactly where those do
+  pub both-as : (list_old list_new routes_old routes_new : D) (A B : Side → Type 0) → ((which : Side) → A which → B which) → ((which : Side) → B which → A which)
+      → LeavesBoth slots events flight faults list_old list_new routes_old routes_new A → LeavesBoth slots events flight faults list_old list_new routes_old routes_new B
   both-as list_old list_new routes_old routes_new A B to back is = record {
-    which = is.which;
-    list = leaves_same slots events flight faults list_old list_new (A × (is.which ≡ side.List)) (B × (is.which ≡ side.List)) (λ a. (to a.0, a.1)) (λ b. (back b.0, b.1)) is.list;
-    routes = leaves_same slots events flight faults routes_old routes_new (A × (is.which ≡ side.Routes)) (B × (is.which ≡ side.Routes)) (λ a. (to a.0, a.1)) (λ b. (back b.0, b.1)) is.routes;
+    list = leaves_same slots events flight faults list_old list_new (A side.List) (B side.List) (to side.List) (back side.List) is.list;
+    routes = leaves_same slots events flight faults routes_old routes_new (A side.Routes) (B side.Routes) (to side.Routes) (back side.Routes) is.routes;
   }
 
   -- what an act leaves: where the list's plan is held still its device failed, and else the routes'
   pub both-of : (list_old list_new routes_old routes_new : D) (new : Routing) (result : Result (Unit {0}) RouterFault)
       → LeavesDevice slots events flight faults list_old list_new (FailedAt side.List new result) → LeavesDevice slots events flight faults routes_old routes_new (FailedAt side.Routes new result)
-      → LeavesBoth slots events flight faults list_old list_new routes_old routes_new (result ≡ Err Device)
-  both-of list_old list_new routes_old routes_new new result list routes = by new.listed.whole.held refl
-    where
-      by : (held : Option HeldCommit) → new.listed.whole.held ≡ held → LeavesBoth slots events flight faults list_old list_new routes_old routes_new (result ≡ Err Device)
-      by (Some one) is =
-          let some : IsSome new.listed.whole.held = subst (λ (held : Option HeldCommit). IsSome held) (sym is) refl in
-          record {
-            which = side.List;
-            list = leaves_same slots events flight faults list_old list_new (FailedAt side.List new result) ((result ≡ Err Device) × (side.List ≡ side.List)) (λ failed. (failed.0, refl)) (λ failed. (failed.0, some)) list;
-            routes = leaves_same slots events flight faults routes_old routes_new (FailedAt side.Routes new result) ((result ≡ Err Device) × (side.List ≡ side.Routes))
-                (λ failed. absurd (not_held new.listed some failed.1)) (λ failed. absurd (let wrong : side.List ≡ side.Routes = failed.1 in cc)) routes;
-          }
-      by None is = record {
-        which = side.Routes;
-        list = leaves_same slots events flight faults list_old list_new (FailedAt side.List new result) ((result ≡ Err Device) × (side.Routes ≡ side.List))
-            (λ failed. absurd (not_held new.listed failed.1 is)) (λ failed. absurd (let wrong : side.Routes ≡ side.List = failed.1 in cc)) list;
-        routes = leaves_same slots events flight faults routes_old routes_new (FailedAt side.Routes new result) ((result ≡ Err Device) × (side.Routes ≡ side.Routes)) (λ failed. (failed.0, refl)) (λ failed. (failed.0, is)) routes;
-      }
+      → LeavesBoth slots events flight faults list_old list_new routes_old routes_new (FailsOf (result ≡ Err Device) (failed_side new))
+  both-of list_old list_new routes_old routes_new new result list routes = record {
+    list = leaves_same slots events flight faults list_old list_new (FailedAt side.List new result) (FailsOf (result ≡ Err Device) (failed_side new) side.List)
+        (λ failed. (failed.0, sym (list_failed new failed.1))) (λ failed. (failed.0, held-of new failed.1)) list;
+    routes = leaves_same slots events flight faults routes_old routes_new (FailedAt side.Routes new result) (FailsOf (result ≡ Err Device) (failed_side new) side.Routes)
+        (λ failed. (failed.0, sym (routes_failed new failed.1))) (λ failed. (failed.0, none-of new failed.1)) routes;
+  }
 
   -- the tries of a run whose devices were blank, by their events
-  pub list-tried : (list_old list_new routes_old routes_new : D) (A : Type 0) (is : LeavesBoth slots events flight faults list_old list_new routes_old routes_new A) → events list_old ≡ []
-      → IsTried 4 (length (written (events list_new))) (A × (is.which ≡ side.List)) (faults list_old) (faults list_new)
+  pub list-tried : (list_old list_new routes_old routes_new : D) (A : Side → Type 0) (is : LeavesBoth slots events flight faults list_old list_new routes_old routes_new A) → events list_old ≡ []
+      → IsTried 4 (length (written (events list_new))) (A side.List) (faults list_old) (faults list_new)
   list-tried list_old list_new routes_old routes_new A is blank =
-      subst (λ (all : List SplitAction). IsTried 4 (length (written all)) (A × (is.which ≡ side.List)) (faults list_old) (faults list_new))
+      subst (λ (all : List SplitAction). IsTried 4 (length (written all)) (A side.List) (faults list_old) (faults list_new))
       (sym (is.list.grown ∙ ap (λ (old : List SplitAction). old ++ is.list.made) blank)) is.list.cause
 
-  pub routes-tried : (list_old list_new routes_old routes_new : D) (A : Type 0) (is : LeavesBoth slots events flight faults list_old list_new routes_old routes_new A) → events routes_old ≡ []
-      → IsTried 4 (length (written (events routes_new))) (A × (is.which ≡ side.Routes)) (faults routes_old) (faults routes_new)
+  pub routes-tried : (list_old list_new routes_old routes_new : D) (A : Side → Type 0) (is : LeavesBoth slots events flight faults list_old list_new routes_old routes_new A) → events routes_old ≡ []
+      → IsTried 4 (length (written (events routes_new))) (A side.Routes) (faults routes_old) (faults routes_new)
   routes-tried list_old list_new routes_old routes_new A is blank =
-      subst (λ (all : List SplitAction). IsTried 4 (length (written all)) (A × (is.which ≡ side.Routes)) (faults routes_old) (faults routes_new))
+      subst (λ (all : List SplitAction). IsTried 4 (length (written all)) (A side.Routes) (faults routes_old) (faults routes_new))
       (sym (is.routes.grown ∙ ap (λ (old : List SplitAction). old ++ is.routes.made) blank)) is.routes.cause

@@ -5,15 +5,17 @@ use Rattle.script_lines.specs.Given.{ByGiven}
 use Rattle.script_runs.specs.declared.Status.{Status}
 use Rattle.script_runs.specs.declared.Status.TheVariants.{Done, Refused, Script as ScriptFault, ReadFault, WriteFault, DeviceFault, Memory, Usage}
 use Rattle.script_runs.specs.Script.{Reading, script_of, script_so_far}
-use Rattle.script_runs.specs.Outcomes.{MatchesOutcome, TakesFrom}
+use Rattle.script_runs.specs.Outcomes.{IsEffectDue, MatchesOutcome, RunKind, TakesFrom}
 use Rattle.script_runs.specs.InTime.{ReadsLinesInTime}
 use Rattle.batch_order.specs.CarriedOut.{IsTried}
 use Rattle.split_device.specs.declared.SplitAction.{SplitAction}
+use Rattle.split_device.specs.declared.SplitWrite.{SplitWrite}
 use Rattle.split_device.specs.Flight.{written}
 use Rattle.router.specs.declared.Side.{Side}
 use Rattle.router.specs.declared.Side.TheVariants as side
 use Rattle.router.specs.declared.RouterAct.{RouterAct}
-use Rattle.router.specs.Run.{DeviceSlots, Setting}
+use Rattle.router.specs.Run.{DeviceSlots, Effect, Progress, Setting}
+use Rattle.router.specs.Script.{Pending}
 use Rattle.router.specs.Taken.{MadeOfBoth}
 use Rattle.router_runs.specs.Scripts.{router_scripts}
 use Rattle.router_runs.specs.Runs.{router_kind}
@@ -38,12 +40,12 @@ IsRouterCarriedOut reading setting slots status left_old left_new taken_old take
     × MatchesOutcome (router_kind reading setting slots) (script_of (router_scripts reading) old)
     (script_so_far (router_scripts reading) (take (length old - length new) old)) status events taken_old taken_new))
 
--- What packets see of each table by itself, on devices that were blank.
+-- What packets see of each table by itself, on devices that were blank, and at which of them the run is cut, if it is.
 abbrev pub IsHitlessRouter : Reading RouterAct → Setting → DeviceSlots → Status → Option (List ℕ) → Option (List ℕ) → MadeOfBoth → Type 0
 IsHitlessRouter reading setting slots status left_old left_new events =
     IfSome left_old (λ old. IfSome left_new (λ new.
-    (which : Side) → IsHitlessTable which setting (slots_on which slots) (script_of (router_scripts reading) old)
-    (script_so_far (router_scripts reading) (take (length old - length new) old)) status (events_on which events)))
+    (cut : Side) × ((which : Side) → IsHitlessTable cut which setting (slots_on which slots) (script_of (router_scripts reading) old)
+    (script_so_far (router_scripts reading) (take (length old - length new) old)) status (events_on which events))))
 
 -- the rule lists alone decide this status, where the script is told
 abbrev pub IsRouterDecided : Reading RouterAct → Setting → Status → Option (List ℕ) → Type 0
@@ -87,13 +89,20 @@ pub record Failures : Type 0 where
 abbrev pub failures_of : ℕ → ℕ → ℕ → ℕ → Failures
 failures_of source sink list routes = record { source = source; sink = sink; list = list; routes = routes }
 
--- A fault of source or sink exactly where its count rose, by one. A device's exactly where the count of one device, which this says,
--- rose by four, as by four tries of one part; beside them each device's rose by at most three for each part that was made of it. Else
--- it is want of memory, or the status that the script decides.
-pub record HasRouterCauses (reading : Reading RouterAct) (setting : Setting) (left : Option (List ℕ)) (status : Status) (events : MadeOfBoth) (before after : Failures) : Type 0 where
+-- A run over a script of these bytes has made this of both devices, and a part of this table's device is what it does next.
+abbrev pub IsPartDue : RunKind RouterAct Pending Progress Effect (Side × SplitWrite) MadeOfBoth → Side → List ℕ → MadeOfBoth → Type 0
+IsPartDue kind which bytes events =
+    (effects : List Effect) × (part : SplitWrite) × IsEffectDue kind (script_of kind.scripts bytes) effects (kind.write (which, part))
+    × (events ≡ kind.events_in effects)
+
+-- A fault of source or sink exactly where its count rose, by one. A device's where a part of the device that this names is due, and
+-- its count rose by four, as by four tries of that part; beside them each device's rose by at most three for each part that was made
+-- of it. Else it is want of memory, or the status that the script decides.
+pub record HasRouterCauses (reading : Reading RouterAct) (setting : Setting) (slots : DeviceSlots) (left : Option (List ℕ)) (status : Status) (events : MadeOfBoth) (before after : Failures) : Type 0 where
   pub read : IsCounted (status ≡ ReadFault) before.source after.source
   pub write : IsCounted (status ≡ WriteFault) before.sink after.sink
   pub which : Side
   pub list : IsTried 4 (length (written events.list)) ((status ≡ DeviceFault) × (which ≡ side.List)) before.list after.list
   pub routes : IsTried 4 (length (written events.routes)) ((status ≡ DeviceFault) × (which ≡ side.Routes)) before.routes after.routes
+  pub due : status ≡ DeviceFault → IfSome left (λ bytes. IsPartDue (router_kind reading setting slots) which bytes events)
   pub ends : MayRouterEnd reading setting status left

@@ -1,5 +1,6 @@
 //! The program `tcam`: `tcam_cli`'s `run` over standard input, standard output and a blank device in memory; where the first
-//! word behind its name is `router`, `router_cli`'s `run_router` over two, and where it is `draw`, `trace_draw`'s `draw`.
+//! word behind its name is `router` or `router6`, `router_cli`'s `run_router` over two, and where it is `draw`, `trace_draw`'s
+//! `draw`.
 //!
 //! What these three promise is proved; of these few lines nothing is said. What std's reader and writer do with the files is
 //! trusted.
@@ -56,7 +57,7 @@ fn run_process(rt: &HostRuntime) -> Result<Status, AllocError> {
     let mut sink = WriteTo::new(rt.stdout());
     match subcommand(words.as_slice()) {
         "draw" => Ok(draw(rt.alloc(), words.as_slice(), &mut source, &mut sink)),
-        "router" => run_on_two(rt, words.as_slice(), &mut source, &mut sink),
+        "router" | "router6" => run_on_two(rt, words.as_slice(), &mut source, &mut sink),
         _ => run_on_device(rt, words.as_slice(), &mut source, &mut sink),
     }
 }

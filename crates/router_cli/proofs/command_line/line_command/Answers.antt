@@ -1,7 +1,7 @@
 use Rattle.std.proofs.Common.{◌≡◌, ◌∙◌, ap, ap₂, true, codes}
 use Rattle.clap.specs.Words.{App, app_of, with_subcommand, new_app}
 use Rattle.clap.specs.Simple.{app_of_fields, on_top}
-use Rattle.router_cli.specs.CommandLine.{router_line, router_top}
+use Rattle.router_cli.specs.CommandLine.{router_app, router_line, router_top}
 use Rattle.router_cli.proofs.command_line.line_command.Goals as goal
 
 abbrev wanting : App → App
@@ -17,5 +17,8 @@ returns c =
     ap app_of_fields c.subcommand_required.ensures ∙ ap wanting c.new.ensures.app in
     let no_help : app_of c.disable_help_subcommand.result ≡ unhelped (wanting (new_app (codes "tcam"))) =
     ap app_of_fields c.disable_help_subcommand.ensures ∙ ap unhelped required in
+    let first : app_of c.in_ok-subcommand.field-0 ≡ with_subcommand (unhelped (wanting (new_app (codes "tcam")))) (router_app (codes "router")).top =
     c.in_ok-subcommand.ensures.shape c.in_ok-router_command.ensures.local
-    ∙ ap₂ with_subcommand no_help (ap (λ (a : App). a.top) c.in_ok-router_command.ensures.app)
+    ∙ ap₂ with_subcommand no_help (ap (λ (a : App). a.top) c.in_ok-router_command.ensures.app) in
+    c.in_ok-subcommand-2.ensures.shape c.in_ok-router_command-2.ensures.local
+    ∙ ap₂ with_subcommand first (ap (λ (a : App). a.top) c.in_ok-router_command-2.ensures.app)

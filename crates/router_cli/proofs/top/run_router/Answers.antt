@@ -28,18 +28,18 @@ run_router_script-requires-clause-whole g c = ap (λ (router : Routing). router.
 pub returns-in-Ok-clause-carried_out : goal.returns-in-Ok-clause-carried_out
 returns-in-Ok-clause-carried_out g c =
     let asked = rw c.in-Ok-Script.field-0-is at c.in-Ok-Script.ensures.asked in
-    rw (asked ∙ ap (λ (router : Routing). Routes router.version router.listed.whole.slots router.listed.whole.mode router.listed.whole.placement) (sym c.in-Ok.ensures.begun)) c.run_router_script.ensures.carried_out
+    rw (asked ∙ ap (λ (router : Routing). Routes router.version router.listed.whole.slots router.listed.whole.mode router.listed.whole.placement router.trace) (sym c.in-Ok.ensures.begun)) c.run_router_script.ensures.carried_out
 
 pub returns-in-Ok-clause-hitless : goal.returns-in-Ok-clause-hitless
 returns-in-Ok-clause-hitless g c =
     let asked = rw c.in-Ok-Script.field-0-is at c.in-Ok-Script.ensures.asked in
-    rw (asked ∙ ap (λ (router : Routing). Routes router.version router.listed.whole.slots router.listed.whole.mode router.listed.whole.placement) (sym c.in-Ok.ensures.begun)) c.run_router_script.ensures.hitless
+    rw (asked ∙ ap (λ (router : Routing). Routes router.version router.listed.whole.slots router.listed.whole.mode router.listed.whole.placement router.trace) (sym c.in-Ok.ensures.begun)) c.run_router_script.ensures.hitless
 
 pub returns-in-Ok-clause-given : goal.returns-in-Ok-clause-given
 returns-in-Ok-clause-given g c = λ which.
     let asked = rw c.in-Ok-Script.field-0-is at c.in-Ok-Script.ensures.asked in
     let given = c.run_router_script.ensures.given which in
-    rw (asked ∙ ap (λ (router : Routing). Routes router.version router.listed.whole.slots router.listed.whole.mode router.listed.whole.placement) (sym c.in-Ok.ensures.begun)) (
+    rw (asked ∙ ap (λ (router : Routing). Routes router.version router.listed.whole.slots router.listed.whole.mode router.listed.whole.placement router.trace) (sym c.in-Ok.ensures.begun)) (
       given.0,
       given.1,
       λ left now may.
@@ -50,12 +50,12 @@ returns-in-Ok-clause-given g c = λ which.
 pub returns-in-Ok-clause-in_time : goal.returns-in-Ok-clause-in_time
 returns-in-Ok-clause-in_time g c =
     let asked = rw c.in-Ok-Script.field-0-is at c.in-Ok-Script.ensures.asked in
-    rw (asked ∙ ap (λ (router : Routing). Routes router.version router.listed.whole.slots router.listed.whole.mode router.listed.whole.placement) (sym c.in-Ok.ensures.begun)) c.run_router_script.ensures.in_time
+    rw (asked ∙ ap (λ (router : Routing). Routes router.version router.listed.whole.slots router.listed.whole.mode router.listed.whole.placement router.trace) (sym c.in-Ok.ensures.begun)) c.run_router_script.ensures.in_time
 
 pub returns-in-Ok-clause-causes : goal.returns-in-Ok-clause-causes
 returns-in-Ok-clause-causes g c =
     let asked = rw c.in-Ok-Script.field-0-is at c.in-Ok-Script.ensures.asked in
-    rw (asked ∙ ap (λ (router : Routing). Routes router.version router.listed.whole.slots router.listed.whole.mode router.listed.whole.placement) (sym c.in-Ok.ensures.begun)) c.run_router_script.ensures.causes
+    rw (asked ∙ ap (λ (router : Routing). Routes router.version router.listed.whole.slots router.listed.whole.mode router.listed.whole.placement router.trace) (sym c.in-Ok.ensures.begun)) c.run_router_script.ensures.causes
 
 -- ---- no memory for it
 
@@ -72,7 +72,7 @@ pub returns-in-Err-clause-in_time : goal.returns-in-Err-clause-in_time
 returns-in-Err-clause-in_time g c = nothing-read _ _ _ _ _ _
 
 pub returns-in-Err-clause-causes : goal.returns-in-Err-clause-causes
-returns-in-Err-clause-causes g c = memory-causes _ _ _ _
+returns-in-Err-clause-causes g c = memory-causes _ _ _ _ _
 
 -- ---- nor for the words
 
@@ -89,7 +89,7 @@ pub returns-in-Err-Memory-clause-in_time : goal.returns-in-Err-Memory-clause-in_
 returns-in-Err-Memory-clause-in_time g c = nothing-read _ _ _ _ _ _
 
 pub returns-in-Err-Memory-clause-causes : goal.returns-in-Err-Memory-clause-causes
-returns-in-Err-Memory-clause-causes g c = memory-causes _ _ _ _
+returns-in-Err-Memory-clause-causes g c = memory-causes _ _ _ _ _
 
 -- ---- the help
 

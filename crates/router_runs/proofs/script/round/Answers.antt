@@ -1,4 +1,4 @@
-use Rattle.std.proofs.Common.{[], ap, sym, ◌∙◌, Ok, refl}
+use Rattle.std.proofs.Common.{true, [], ap, sym, ◌∙◌, Ok, refl}
 use Rattle.script_lines.specs.Given.{counted}
 use Rattle.script_runs.proofs.Joined.{same-grows, closes-grows}
 use Rattle.script_runs.proofs.Exits.{exit-bytes, exit-end, exit-read, goes-none, exit-word, exit-full}
@@ -8,9 +8,9 @@ use Rattle.router.specs.Routing.{setting_of, slots_of}
 use Rattle.router_reader.specs.Readings.{router_reading}
 use Rattle.router_runs.specs.Runs.{router_kind}
 use Rattle.router_runs.proofs.Counts.{counted-as, counted-then, not-counted, some-counted, some-same}
-use Rattle.router_runs.proofs.Exits.{closes-same, does-nothing, ends-same, exit-line, exit-memory, exit-part, goes-on, grows-same, wants-next}
+use Rattle.router_runs.proofs.Exits.{closes-same, does-nothing, due-part, ends-same, exit-line, exit-memory, exit-part, goes-on, grows-same, wants-next}
 use Rattle.router_runs.proofs.Kind.{grows-of, joins}
-use Rattle.router_runs.proofs.Leaving.{both-as, both-of, both-still}
+use Rattle.router_runs.proofs.Leaving.{both-as, both-of, both-still, fails-as, never-fails}
 use Rattle.router_runs.proofs.Sized.{fits-next}
 use Rattle.router_runs.proofs.script.round.Goals as goal
 
@@ -22,6 +22,7 @@ returns-in-Err-Read-clause-gives g c =
       λ which. rounds-other _ _ _ _ _ _ _ _ _ _ _ _ _ h.ensures.gives.2 (λ e. cc) (λ bytes left now start may s. same-grows joins _ _)
           (λ bytes taken begun now start may parts s.
           exit-read _ joins bytes _ begun _ _ start _ s c.next.new.self taken now (rw h.field-0-is at h.ensures.again) (λ going. rw h.field-0-is at (h.ensures.gives.2.hands going begun now may)) parts),
+      λ e. cc,
     )
 
 pub returns-in-Err-ScriptTooLong-clause-gives : goal.returns-in-Err-ScriptTooLong-clause-gives
@@ -32,6 +33,7 @@ returns-in-Err-ScriptTooLong-clause-gives g c =
       λ which. rounds-other _ _ _ _ _ _ _ _ _ _ _ _ _ h.ensures.gives.2 c.fault.ensures.kind.3 (λ bytes left now start may s. closes-grows joins _ _ _ _ _ _ (c.fault.ensures.closes.closes which))
           (λ bytes taken begun now start may parts s.
           exit-bytes _ joins bytes _ begun _ _ start _ s taken now _ _ _ _ _ refl (rw h.field-0-is at h.ensures.again) (λ going. rw h.field-0-is at (h.ensures.gives.2.hands going begun now may)) (c.fault.ensures.closes.closes which)),
+      λ e. absurd (c.fault.ensures.kind.2 (some-same _ _ e)),
     )
 
 pub returns-in-Err-TooLong-clause-gives : goal.returns-in-Err-TooLong-clause-gives
@@ -42,6 +44,7 @@ returns-in-Err-TooLong-clause-gives g c =
       λ which. rounds-other _ _ _ _ _ _ _ _ _ _ _ _ _ h.ensures.gives.2 c.fault-in-Err-TooLong.ensures.kind.3 (λ bytes left now start may s. closes-grows joins _ _ _ _ _ _ (c.fault-in-Err-TooLong.ensures.closes.closes which))
           (λ bytes taken begun now start may parts s.
           exit-bytes _ joins bytes _ begun _ _ start _ s taken now _ _ _ _ _ refl (rw h.field-0-is at h.ensures.again) (λ going. rw h.field-0-is at (h.ensures.gives.2.hands going begun now may)) (c.fault-in-Err-TooLong.ensures.closes.closes which)),
+      λ e. absurd (c.fault-in-Err-TooLong.ensures.kind.2 (some-same _ _ e)),
     )
 
 pub returns-in-Err-BadByte-clause-gives : goal.returns-in-Err-BadByte-clause-gives
@@ -52,6 +55,7 @@ returns-in-Err-BadByte-clause-gives g c =
       λ which. rounds-other _ _ _ _ _ _ _ _ _ _ _ _ _ h.ensures.gives.2 c.fault-in-Err-BadByte.ensures.kind.3 (λ bytes left now start may s. closes-grows joins _ _ _ _ _ _ (c.fault-in-Err-BadByte.ensures.closes.closes which))
           (λ bytes taken begun now start may parts s.
           exit-bytes _ joins bytes _ begun _ _ start _ s taken now _ _ _ _ _ refl (rw h.field-0-is at h.ensures.again) (λ going. rw h.field-0-is at (h.ensures.gives.2.hands going begun now may)) (c.fault-in-Err-BadByte.ensures.closes.closes which)),
+      λ e. absurd (c.fault-in-Err-BadByte.ensures.kind.2 (some-same _ _ e)),
     )
 
 pub returns-in-Ok-None-clause-gives : goal.returns-in-Ok-None-clause-gives
@@ -63,6 +67,7 @@ returns-in-Ok-None-clause-gives g c =
           (λ bytes taken begun now start may parts s.
           exit-end _ joins bytes _ begun _ _ start _ s c.next.new.self taken now _ _ (λ going. rw h.field-0-is at (h.ensures.gives.2.hands going begun now may))
           (λ other. rests-same _ _ _ _ begun now h.ensures.gives.2 may other) (c.finish.ensures.closes.closes which)),
+      λ e. absurd (c.finish.ensures.kind.2 (some-same _ _ e)),
     )
 
 pub returns-in-Err-clause-gives : goal.returns-in-Err-clause-gives
@@ -74,6 +79,7 @@ returns-in-Err-clause-gives g c =
           (λ bytes taken begun now start may parts s.
           exit-word _ joins bytes _ begun _ _ start _ s h.line c.next.new.self now (rw h.field-0-is at h.ensures.again) (λ going. rw h.field-0-is at (h.ensures.gives.2.hands going begun now may))
           taken _ _ _ (rw c.version.ensures at c.in-Err.ensures.err) (c.fault-in-Err.ensures.closes.closes which)),
+      λ e. absurd (c.fault-in-Err.ensures.kind.2 (some-same _ _ e)),
     )
 
 pub returns-in-Ok-None-read_router_act-clause-gives : goal.returns-in-Ok-None-read_router_act-clause-gives
@@ -85,6 +91,7 @@ returns-in-Ok-None-read_router_act-clause-gives g c =
           (λ bytes begun now start may s.
           goes-none _ joins bytes _ begun _ _ start _ s h.line c.next.new.self now (rw h.field-0-is at h.ensures.again) (λ going. rw h.field-0-is at (h.ensures.gives.2.hands going begun now may))
           ((rw c.version.ensures at c.in-Ok-None-read_router_act.ensures.ok) ∙ ap Ok c.in-Ok-None-read_router_act.field-0-is)),
+      λ e. cc,
     )
 
 pub returns-in-Ok-clause-gives : goal.returns-in-Ok-clause-gives
@@ -103,6 +110,7 @@ returns-in-Ok-clause-gives g c =
           (λ bytes begun now start may s.
           goes-on reading setting slots bytes _ begun _ before after start s h.line c.next.new.self now (rw h.field-0-is at h.ensures.again) (λ going. rw h.field-0-is at (h.ensures.gives.2.hands going begun now may))
           _ ((rw c.version.ensures at c.in-Ok-Some-read_router_act.ensures.ok) ∙ ap Ok c.in-Ok-Some-read_router_act.field-0-is) (sym (c.in-Ok.ensures.limit c.requires.stands.idle)) _ made),
+      λ e. cc,
     )
 
 pub returns-in-Err-Sink-clause-gives : goal.returns-in-Err-Sink-clause-gives
@@ -121,6 +129,7 @@ returns-in-Err-Sink-clause-gives g c =
           (λ bytes taken begun now start may parts s.
           exit-line reading setting slots bytes _ begun _ before after start s h.line c.next.new.self now (rw h.field-0-is at h.ensures.again) (λ going. rw h.field-0-is at (h.ensures.gives.2.hands going begun now may))
           _ ((rw c.version.ensures at c.in-Ok-Some-read_router_act.ensures.ok) ∙ ap Ok c.in-Ok-Some-read_router_act.field-0-is) (sym (rw c.in-Err-Sink.field-0-is at (c.in-Err-Sink.ensures.limit c.requires.stands.idle))) taken cuts),
+      λ e. cc,
     )
 
 pub returns-in-Err-Device-clause-gives : goal.returns-in-Err-Device-clause-gives
@@ -138,7 +147,13 @@ returns-in-Err-Device-clause-gives g c =
           rounds-other (router_kind reading setting slots) _ _ _ _ _ _ _ _ _ _ _ _ h.ensures.gives.2 (λ e. cc) (λ bytes left now start may s. grows-of reading setting slots cuts.front [] before after cuts.does)
           (λ bytes taken begun now start may parts s.
           exit-part reading setting slots bytes _ begun _ before after start s h.line c.next.new.self now (rw h.field-0-is at h.ensures.again) (λ going. rw h.field-0-is at (h.ensures.gives.2.hands going begun now may))
-          _ ((rw c.version.ensures at c.in-Ok-Some-read_router_act.ensures.ok) ∙ ap Ok c.in-Ok-Some-read_router_act.field-0-is) (sym (rw c.in-Err-Device.field-0-is at (c.in-Err-Device.ensures.limit c.requires.stands.idle))) taken _ cuts),
+          _ ((rw c.version.ensures at c.in-Ok-Some-read_router_act.ensures.ok) ∙ ap Ok c.in-Ok-Some-read_router_act.field-0-is) (sym (rw c.in-Err-Device.field-0-is at (c.in-Err-Device.ensures.limit c.requires.stands.idle))) taken _ _ cuts),
+      λ _ bytes left now start may s.
+          let before = outside (g.D.SplitDevice.events c.args.list.now) (g.D.SplitDevice.events c.args.routes.now) (g.K.Sink.taken c.args.sink.now) in
+          let after = outside (g.D.SplitDevice.events c.apply.new.list) (g.D.SplitDevice.events c.apply.new.routes) (g.K.Sink.taken c.apply.new.sink) in
+          let cuts = (rw c.in-Err-Device.field-0-is at (c.in-Err-Device.ensures.acts true)).1 c.requires.at in
+          due-part reading setting slots bytes _ left _ before after start s h.line c.next.new.self now (rw h.field-0-is at h.ensures.again) (λ going. rw h.field-0-is at (h.ensures.gives.2.hands going left now may))
+          _ ((rw c.version.ensures at c.in-Ok-Some-read_router_act.ensures.ok) ∙ ap Ok c.in-Ok-Some-read_router_act.field-0-is) (sym (rw c.in-Err-Device.field-0-is at (c.in-Err-Device.ensures.limit c.requires.stands.idle))) _ _ cuts,
     )
 
 pub returns-in-Err-Memory-clause-gives : goal.returns-in-Err-Memory-clause-gives
@@ -161,6 +176,7 @@ returns-in-Err-Memory-clause-gives g c =
           (λ memory bytes left now start may s.
           wants-next reading setting slots bytes _ left _ before after start s h.line c.next.new.self now (rw h.field-0-is at h.ensures.again) (λ going. rw h.field-0-is at (h.ensures.gives.2.hands going left now may))
           _ ((rw c.version.ensures at c.in-Ok-Some-read_router_act.ensures.ok) ∙ ap Ok c.in-Ok-Some-read_router_act.field-0-is) (sym (rw c.in-Err-Memory.field-0-is at (c.in-Err-Memory.ensures.limit c.requires.stands.idle))) wants.0 wants.1.outside_is),
+      λ e. cc,
     )
 
 pub returns-in-Err-BatchFull-clause-gives : goal.returns-in-Err-BatchFull-clause-gives
@@ -182,48 +198,49 @@ returns-in-Err-BatchFull-clause-gives g c =
           ends-same reading setting slots bytes taken now _ before after start _ same
           (exit-full (router_kind reading setting slots) joins bytes _ begun _ _ start _ s h.line c.next.new.self now (rw h.field-0-is at h.ensures.again) (λ going. rw h.field-0-is at (h.ensures.gives.2.hands going begun now may))
           taken _ _ _ _ ((rw c.version.ensures at c.in-Ok-Some-read_router_act.ensures.ok) ∙ ap Ok c.in-Ok-Some-read_router_act.field-0-is) (sym (rw c.in-Err-BatchFull.field-0-is at (c.in-Err-BatchFull.ensures.limit c.requires.stands.idle))) (closes-same before after _ _ _ _ same closes))),
+      λ e. absurd (c.fault-in-Err-BatchFull.ensures.kind.2 (some-same _ _ e)),
     )
 
 pub returns-in-Err-Read-clause-devices : goal.returns-in-Err-Read-clause-devices
-returns-in-Err-Read-clause-devices g c = both-still _ _ _ _ _ _ _ (λ e. cc)
+returns-in-Err-Read-clause-devices g c = both-still _ _ _ _ _ _ _ (never-fails _ _ (λ e. cc))
 
 pub returns-in-Ok-None-read_router_act-clause-devices : goal.returns-in-Ok-None-read_router_act-clause-devices
-returns-in-Ok-None-read_router_act-clause-devices g c = both-still _ _ _ _ _ _ _ (λ e. cc)
+returns-in-Ok-None-read_router_act-clause-devices g c = both-still _ _ _ _ _ _ _ (never-fails _ _ (λ e. cc))
 
 pub returns-in-Err-ScriptTooLong-clause-devices : goal.returns-in-Err-ScriptTooLong-clause-devices
-returns-in-Err-ScriptTooLong-clause-devices g c = both-still _ _ _ _ _ _ _ (λ e. c.fault.ensures.kind.2 (some-same _ _ e))
+returns-in-Err-ScriptTooLong-clause-devices g c = both-still _ _ _ _ _ _ _ (never-fails _ _ (λ e. c.fault.ensures.kind.2 (some-same _ _ e)))
 
 pub returns-in-Err-TooLong-clause-devices : goal.returns-in-Err-TooLong-clause-devices
-returns-in-Err-TooLong-clause-devices g c = both-still _ _ _ _ _ _ _ (λ e. c.fault-in-Err-TooLong.ensures.kind.2 (some-same _ _ e))
+returns-in-Err-TooLong-clause-devices g c = both-still _ _ _ _ _ _ _ (never-fails _ _ (λ e. c.fault-in-Err-TooLong.ensures.kind.2 (some-same _ _ e)))
 
 pub returns-in-Err-BadByte-clause-devices : goal.returns-in-Err-BadByte-clause-devices
-returns-in-Err-BadByte-clause-devices g c = both-still _ _ _ _ _ _ _ (λ e. c.fault-in-Err-BadByte.ensures.kind.2 (some-same _ _ e))
+returns-in-Err-BadByte-clause-devices g c = both-still _ _ _ _ _ _ _ (never-fails _ _ (λ e. c.fault-in-Err-BadByte.ensures.kind.2 (some-same _ _ e)))
 
 pub returns-in-Ok-None-clause-devices : goal.returns-in-Ok-None-clause-devices
-returns-in-Ok-None-clause-devices g c = both-still _ _ _ _ _ _ _ (λ e. c.finish.ensures.kind.2 (some-same _ _ e))
+returns-in-Ok-None-clause-devices g c = both-still _ _ _ _ _ _ _ (never-fails _ _ (λ e. c.finish.ensures.kind.2 (some-same _ _ e)))
 
 pub returns-in-Err-clause-devices : goal.returns-in-Err-clause-devices
-returns-in-Err-clause-devices g c = both-still _ _ _ _ _ _ _ (λ e. c.fault-in-Err.ensures.kind.2 (some-same _ _ e))
+returns-in-Err-clause-devices g c = both-still _ _ _ _ _ _ _ (never-fails _ _ (λ e. c.fault-in-Err.ensures.kind.2 (some-same _ _ e)))
 
 pub returns-in-Ok-clause-devices : goal.returns-in-Ok-clause-devices
 returns-in-Ok-clause-devices g c =
-    both-as _ _ _ _ _ _ _ _ _ _ (λ e. cc) (λ e. cc) (both-of _ _ _ _ _ _ _ _ c.apply.new.self _ c.in-Ok.ensures.list c.in-Ok.ensures.routes)
+    both-as _ _ _ _ _ _ _ _ _ _ (fails-as _ _ _ (λ e. cc)) (fails-as _ _ _ (λ e. cc)) (both-of _ _ _ _ _ _ _ _ c.apply.new.self _ c.in-Ok.ensures.list c.in-Ok.ensures.routes)
 
 pub returns-in-Err-Sink-clause-devices : goal.returns-in-Err-Sink-clause-devices
 returns-in-Err-Sink-clause-devices g c =
-    both-as _ _ _ _ _ _ _ _ _ _ (λ e. cc) (λ e. cc) (both-of _ _ _ _ _ _ _ _ c.apply.new.self _ (rw c.in-Err-Sink.field-0-is at (c.in-Err-Sink.ensures.list)) (rw c.in-Err-Sink.field-0-is at (c.in-Err-Sink.ensures.routes)))
+    both-as _ _ _ _ _ _ _ _ _ _ (fails-as _ _ _ (λ e. cc)) (fails-as _ _ _ (λ e. cc)) (both-of _ _ _ _ _ _ _ _ c.apply.new.self _ (rw c.in-Err-Sink.field-0-is at (c.in-Err-Sink.ensures.list)) (rw c.in-Err-Sink.field-0-is at (c.in-Err-Sink.ensures.routes)))
 
 pub returns-in-Err-Memory-clause-devices : goal.returns-in-Err-Memory-clause-devices
 returns-in-Err-Memory-clause-devices g c =
-    both-as _ _ _ _ _ _ _ _ _ _ (λ e. cc) (λ e. cc) (both-of _ _ _ _ _ _ _ _ c.apply.new.self _ (rw c.in-Err-Memory.field-0-is at (c.in-Err-Memory.ensures.list)) (rw c.in-Err-Memory.field-0-is at (c.in-Err-Memory.ensures.routes)))
+    both-as _ _ _ _ _ _ _ _ _ _ (fails-as _ _ _ (λ e. cc)) (fails-as _ _ _ (λ e. cc)) (both-of _ _ _ _ _ _ _ _ c.apply.new.self _ (rw c.in-Err-Memory.field-0-is at (c.in-Err-Memory.ensures.list)) (rw c.in-Err-Memory.field-0-is at (c.in-Err-Memory.ensures.routes)))
 
 pub returns-in-Err-Device-clause-devices : goal.returns-in-Err-Device-clause-devices
 returns-in-Err-Device-clause-devices g c =
-    both-as _ _ _ _ _ _ _ _ _ _ (λ e. refl) (λ e. refl) (both-of _ _ _ _ _ _ _ _ c.apply.new.self _ (rw c.in-Err-Device.field-0-is at (c.in-Err-Device.ensures.list)) (rw c.in-Err-Device.field-0-is at (c.in-Err-Device.ensures.routes)))
+    both-as _ _ _ _ _ _ _ _ _ _ (fails-as _ _ _ (λ e. refl)) (fails-as _ _ _ (λ e. refl)) (both-of _ _ _ _ _ _ _ _ c.apply.new.self _ (rw c.in-Err-Device.field-0-is at (c.in-Err-Device.ensures.list)) (rw c.in-Err-Device.field-0-is at (c.in-Err-Device.ensures.routes)))
 
 pub returns-in-Err-BatchFull-clause-devices : goal.returns-in-Err-BatchFull-clause-devices
 returns-in-Err-BatchFull-clause-devices g c =
-    both-as _ _ _ _ _ _ _ _ _ _ (λ e. cc) (λ e. absurd (c.fault-in-Err-BatchFull.ensures.kind.2 (some-same _ _ e))) (both-of _ _ _ _ _ _ _ _ c.apply.new.self _ (rw c.in-Err-BatchFull.field-0-is at (c.in-Err-BatchFull.ensures.list)) (rw c.in-Err-BatchFull.field-0-is at (c.in-Err-BatchFull.ensures.routes)))
+    both-as _ _ _ _ _ _ _ _ _ _ (fails-as _ _ _ (λ e. cc)) (fails-as _ _ _ (λ e. absurd (c.fault-in-Err-BatchFull.ensures.kind.2 (some-same _ _ e)))) (both-of _ _ _ _ _ _ _ _ c.apply.new.self _ (rw c.in-Err-BatchFull.field-0-is at (c.in-Err-BatchFull.ensures.list)) (rw c.in-Err-BatchFull.field-0-is at (c.in-Err-BatchFull.ensures.routes)))
 
 pub returns-in-Err-Read-clause-write : goal.returns-in-Err-Read-clause-write
 returns-in-Err-Read-clause-write g c = not-counted _ _ (λ e. cc)

@@ -6,16 +6,18 @@ use Rattle.script_lines.proofs.Turns.{gives-none, gives-trans, may-first, may-se
 use Rattle.script_runs.specs.declared.Status.TheVariants.{DeviceFault}
 use Rattle.script_runs.proofs.Rounds.{ends-told, starts, told-source, counted-last}
 use Rattle.script_runs.proofs.InTime.{in-time-none, stands-first, stands-next, round-in-time, wants-in-time, reads-in-time}
+use Rattle.router.specs.declared.Side.{Side}
 use Rattle.router.specs.Run.{DeviceSlots, Progress, Setting}
 use Rattle.router.specs.Routing.{progress_of, setting_of, slots_of}
+use Rattle.router.specs.Acting.{failed_side}
 use Rattle.router.specs.Taken.{made_on}
 use Rattle.router_reader.specs.Readings.{router_reading}
 use Rattle.router_runs.specs.Runs.{router_kind}
 use Rattle.router_runs.proofs.Kind.{joins}
-use Rattle.router_runs.proofs.WholeRun.{carried, may-end}
+use Rattle.router_runs.proofs.WholeRun.{carried, due-told, may-end}
 use Rattle.router_runs.proofs.HitlessRuns.{hitless-run}
 use Rattle.router_runs.proofs.GivenRuns.{promised}
-use Rattle.router_runs.proofs.Leaving.{both-as, both-still, both-then, list-tried, routes-tried}
+use Rattle.router_runs.proofs.Leaving.{FailsOf, both-as, both-still, both-then, fails-as, list-tried, never-fails, routes-tried}
 use Rattle.router_runs.proofs.script.run_router_script.Goals as goal
 
 pub acts-init : goal.acts-init
@@ -44,7 +46,7 @@ acts-init g c = record {
   );
   none_in_flight = c.requires.none_in_flight;
   told = λ some. some;
-  devices = both-still _ _ _ _ _ _ ⊥ (λ e. e);
+  devices = both-still _ _ _ _ _ _ (λ which. ⊥) (λ which e. e);
   writes = refl;
   reads = refl;
 }
@@ -78,7 +80,8 @@ acts-preserved g c =
       );
       none_in_flight = (t.devices.list.flight_is ∙ i.none_in_flight.0, t.devices.routes.flight_is ∙ i.none_in_flight.1);
       told = λ some. t.told (i.told some);
-      devices = both-then _ _ _ _ _ _ _ _ _ _ ⊥ ⊥ (λ e. e) i.devices (both-as _ _ _ _ _ _ _ _ _ ⊥ (λ e. cc) (λ e. absurd e) t.devices);
+      devices = both-then _ _ _ _ _ _ _ _ _ _ (λ which. ⊥) (λ which. ⊥) (λ which e. e) i.devices
+          (both-as _ _ _ _ _ _ _ _ _ (λ which. ⊥) (never-fails _ _ (λ e. cc)) (λ which e. absurd e) t.devices);
       writes = t.write.stayed (λ e. cc) ∙ i.writes;
       reads = t.read.stayed (λ e. cc) ∙ i.reads;
     }
@@ -117,13 +120,19 @@ returns-in-Some-clause-causes g c =
     let t = c.in-Some.ensures in
     let stays : HasEnd i.gives.0 → t.gives.0 ≡ [] = λ e. (t.gives.2 true).rests (no-more _ (i.gives.2 e)) in
     let all = gives-trans _ _ _ _ _ _ i.gives.0 t.gives.0 i.gives.1 t.gives.1 stays (λ e. (t.rests (no-more _ (i.gives.2 e))).0) in
-    let whole = both-then _ _ _ _ _ _ _ _ _ _ ⊥ (c.in-Some.status ≡ DeviceFault) (λ e. e) i.devices (both-as _ _ _ _ _ _ _ _ _ (c.in-Some.status ≡ DeviceFault) (λ e. cc) (λ e. ap Some e) t.devices) in
+    let failed : Side = failed_side c.round.new.router in
+    let fails : Side → Type 0 = FailsOf (c.in-Some.status ≡ DeviceFault) failed in
+    let whole = both-then _ _ _ _ _ _ _ _ _ _ (λ which. ⊥) fails (λ which e. e) i.devices (both-as _ _ _ _ _ _ _ _ _ fails (fails-as _ _ _ (λ e. cc)) (fails-as _ _ _ (λ e. ap Some e)) t.devices) in
     record {
       read = counted-last (g.S.Source.faults c.args.source.now) (g.S.Source.faults c.acts.source) (g.S.Source.faults c.round.new.source) c.in-Some.status _ i.reads t.read;
       write = counted-last (g.K.Sink.faults c.args.sink.now) (g.K.Sink.faults c.acts.sink) (g.K.Sink.faults c.round.new.sink) c.in-Some.status _ i.writes t.write;
-      which = whole.which;
-      list = list-tried _ _ _ _ _ _ _ _ (c.in-Some.status ≡ DeviceFault) whole c.requires.blank.0;
-      routes = routes-tried _ _ _ _ _ _ _ _ (c.in-Some.status ≡ DeviceFault) whole c.requires.blank.1;
+      which = failed;
+      list = list-tried _ _ _ _ _ _ _ _ fails whole c.requires.blank.0;
+      routes = routes-tried _ _ _ _ _ _ _ _ fails whole c.requires.blank.1;
+      due = λ stuck. due-told (router_kind (router_reading c.args.router.now.version) (setting_of c.args.router.now) (slots_of (g.D.SplitDevice.slot_count c.args.list.now) (g.D.SplitDevice.slot_count c.args.routes.now))) failed
+          _ _ _ _ (i.gives.0 ++ t.gives.0) (made_on (g.D.SplitDevice.events c.round.new.list) (g.D.SplitDevice.events c.round.new.routes)) all (λ left now may.
+          let s = i.gives.3 true left (concat t.gives.0 ++ now) (may-first left now i.gives.0 t.gives.0 may stays) in
+          rw (← i.setting, ← i.version, ← i.devices.list.slot_count, ← i.devices.routes.slot_count) (t.gives.3 (ap Some stuck) left (concat t.gives.0 ++ now) now (g.K.Sink.taken c.args.sink.now) (may-second left now i.gives.0 t.gives.0 may) (rw (i.setting, i.version, i.devices.list.slot_count, i.devices.routes.slot_count) s.so_far)));
       ends = may-end (router_reading c.args.router.now.version) (setting_of c.args.router.now) (slots_of (g.D.SplitDevice.slot_count c.args.list.now) (g.D.SplitDevice.slot_count c.args.routes.now)) c.in-Some.status
           (g.S.Source.left c.args.source.now) (g.S.Source.left c.round.new.source) (made_on (g.D.SplitDevice.events c.round.new.list) (g.D.SplitDevice.events c.round.new.routes)) (g.K.Sink.taken c.args.sink.now) (g.K.Sink.taken c.round.new.sink)
           (concat (i.gives.0 ++ t.gives.0), all.taken) (λ e. t.no_usage (ap Some e)) (ends-told _ c.in-Some.status _ _ _ _ (i.gives.0 ++ t.gives.0) _ _ _ all (λ left taken now may parts.

@@ -26,7 +26,7 @@ invariant-acts g l = record {
       (made_on (g.D.SplitDevice.events l.list) (g.D.SplitDevice.events l.routes)) (g.K.Sink.accepted l.fn.sink) (g.K.Sink.accepted l.sink);
   none_in_flight : (g.D.SplitDevice.flight l.list ≡ no_flight) × (g.D.SplitDevice.flight l.routes ≡ no_flight);
   told : IsSome (g.K.Sink.taken l.fn.sink) → IsSome (g.K.Sink.taken l.sink);
-  devices : LeavesBoth g.D.SplitDevice.slot_count g.D.SplitDevice.events g.D.SplitDevice.flight g.D.SplitDevice.faults l.fn.list l.list l.fn.routes l.routes ⊥;
+  devices : LeavesBoth g.D.SplitDevice.slot_count g.D.SplitDevice.events g.D.SplitDevice.flight g.D.SplitDevice.faults l.fn.list l.list l.fn.routes l.routes (λ which. ⊥);
   writes : g.K.Sink.faults l.sink ≡ g.K.Sink.faults l.fn.sink;
   reads : g.S.Source.faults l.source ≡ g.S.Source.faults l.fn.source;
 }
