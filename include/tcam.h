@@ -24,15 +24,16 @@
  *
  * Every function of a manager answers a code: TCAM_NULL where a pointer is null, and else TCAM_NO_MANAGER where the
  * handle has none, but for tcam_new and tcam_new_split. With any code but TCAM_OK all is as it was before the call,
- * and nothing was written through a pointer, but what tcam_prepare tells of a refusal and tcam_abort with TCAM_BACK.
- * After any code any call may come.
+ * and nothing was written through a pointer, but what tcam_prepare and tcam_prepare_all tell of a refusal,
+ * tcam_restart of a refusal or a fault, and tcam_abort with TCAM_BACK. After any code any call may come.
  *
  * No call locks, waits, prints, calls back, or keeps a pointer that it is given. tcam_new and tcam_new_split, the
- * functions that put a change into the batch, tcam_prepare, and those of a restart take memory by malloc, realloc and
- * free, and say so by TCAM_MEMORY where it is wanting. No call takes memory between a tcam_prepare and the last
- * tcam_made of its commit, but those that put changes into the next batch: so a commit that is under way can't fail
- * for memory, nor can want of it keep one of whole entries from being taken back. The last tcam_made gives back what
- * the commit took, or a tcam_abort with nothing to undo.
+ * functions that put a change into the batch, tcam_prepare, tcam_prepare_all, tcam_longest_chain, and those of a
+ * restart take memory by malloc, realloc and free, and say so by TCAM_MEMORY where it is wanting. No call takes
+ * memory between a tcam_prepare and the last tcam_made of its commit, but tcam_longest_chain and those that put
+ * changes into the next batch: so a commit that is under way can't fail for memory, nor can want of it keep one of
+ * whole entries from being taken back. The last tcam_made gives back what the commit took, or a tcam_abort with
+ * nothing to undo; the room for words of tables stays (docs/C.md, "What a manager takes").
  *
  * Addresses, ports and protocols are numbers as the processor has them: 10.0.0.0 is 0x0a000000. A result is any
  * number, and a look-up answers it: an output port, a next hop, permit or deny. Routes and rules of an access list
@@ -99,7 +100,7 @@ enum tcam_error {
     TCAM_HOST_BITS = 7,     /* a bit of the address past the length is set */
     TCAM_PORTS = 8,         /* a range ends before it begins */
     TCAM_PROTOCOL = 9,      /* past TCAM_ANY_PROTOCOL */
-    TCAM_BATCH_FULL = 10,   /* the batch has 4,096 changes */
+    TCAM_BATCH_FULL = 10,   /* the batch has 4,096 changes, or comes to more */
     TCAM_MEMORY = 11,       /* want of memory */
     TCAM_BUSY = 12,         /* a commit is under way */
     TCAM_TWICE = 13,        /* an earlier change of the batch names the rule */
@@ -332,6 +333,15 @@ uint32_t tcam_c_del_route(struct tcam_manager *manager, uint32_t address, uint8_
 uint32_t tcam_c_add_rule(struct tcam_manager *manager, const struct tcam_rule *rule);
 uint32_t tcam_c_set_rule(struct tcam_manager *manager, uint32_t number, uint32_t result);
 uint32_t tcam_c_del_rule(struct tcam_manager *manager, uint32_t number);
+uint32_t tcam_c_put_route(struct tcam_manager *manager, uint32_t address, uint8_t length, uint32_t result);
+uint32_t tcam_c_drop_route(struct tcam_manager *manager, uint32_t address, uint8_t length);
+uint32_t tcam_c_put_rule(struct tcam_manager *manager, const struct tcam_rule *rule);
+uint32_t tcam_c_drop_rule(struct tcam_manager *manager, uint32_t number);
+uint32_t tcam_c_put_route6(struct tcam_manager *manager, const struct tcam_address *address, uint8_t length,
+                           uint32_t result);
+uint32_t tcam_c_drop_route6(struct tcam_manager *manager, const struct tcam_address *address, uint8_t length);
+uint32_t tcam_c_put_rule6(struct tcam_manager *manager, const struct tcam_rule6 *rule);
+uint32_t tcam_c_prepare_all(struct tcam_manager *manager, struct tcam_numbers *numbers, struct tcam_refusal *refusal);
 uint32_t tcam_c_clear(struct tcam_manager *manager);
 uint32_t tcam_c_prepare(struct tcam_manager *manager, struct tcam_numbers *numbers, struct tcam_refusal *refusal);
 uint32_t tcam_c_next(struct tcam_manager *manager, struct tcam_write *write);
@@ -348,6 +358,7 @@ uint32_t tcam_c_add_rule6(struct tcam_manager *manager, const struct tcam_rule6 
 uint32_t tcam_c_answer6(struct tcam_manager *manager, const struct tcam_key6 *key, struct tcam_answer *answer);
 uint32_t tcam_c_rules(struct tcam_manager *manager, uint32_t *cursor, struct tcam_stored *rule);
 uint32_t tcam_c_free_slots(struct tcam_manager *manager, uint32_t *slots);
+uint32_t tcam_c_longest_chain(struct tcam_manager *manager, uint32_t *longest);
 uint32_t tcam_c_ranges(struct tcam_manager *manager, uint32_t field, uint8_t bit, uint16_t *first, uint16_t *last);
 uint32_t tcam_c_restart_begin(struct tcam_manager *manager);
 uint32_t tcam_c_restart_rule(struct tcam_manager *manager, const struct tcam_stored *rule);
@@ -365,7 +376,7 @@ static inline uint32_t tcam_version(void) {
 }
 
 /* Makes a manager without rules, of a blank memory with so many slots, 0 to slots - 1. It belongs to the handle until
- * tcam_free, and takes 290,000 bytes and 616 a slot at once, 2.8 MB for 4,096, by TCAM_BY_BITS 262,144 more; its
+ * tcam_free, and takes 28,000 bytes and 616 a slot at once, 2.6 MB for 4,096, by TCAM_BY_BITS 262,144 more; its
  * rules, batches and commits come on top (docs/C.md, "What a manager takes"). Other answers are TCAM_MADE_ALREADY,
  * TCAM_SLOTS_RANGE, TCAM_NO_MODE, TCAM_NO_PLACEMENT and TCAM_MEMORY, in this order. */
 static inline enum tcam_error tcam_new(struct tcam_manager *manager, uint32_t slots, enum tcam_mode mode,
@@ -374,7 +385,7 @@ static inline enum tcam_error tcam_new(struct tcam_manager *manager, uint32_t sl
 }
 
 /* Makes a manager without rules, likewise, of a blank memory whose results stand beside the slots: each slot empty,
- * each result word 0. What is due of its commits are parts. It takes 306,000 bytes and 668 a slot at once, by
+ * each result word 0. What is due of its commits are parts. It takes 44,000 bytes and 668 a slot at once, by
  * TCAM_BY_BITS 262,144 more. The answers are those of tcam_new. */
 static inline enum tcam_error tcam_new_split(struct tcam_manager *manager, uint32_t slots, enum tcam_mode mode,
                                              enum tcam_placement placement) {
@@ -392,7 +403,7 @@ static inline enum tcam_error tcam_free(struct tcam_manager *manager) {
  * this order: TCAM_NUMBER, TCAM_PREFIX_LENGTH and TCAM_HOST_BITS of a route or of a rule's source, then both of its
  * destination, then TCAM_PORTS, TCAM_PROTOCOL, and behind all of these TCAM_BATCH_FULL or TCAM_MEMORY. Whether a
  * rule is there is judged by tcam_prepare. A batch names each rule once, or removes it and then adds another in its
- * place. */
+ * place, but for the changes by tcam_put_ and tcam_drop_ below. */
 static inline enum tcam_error tcam_add_route(struct tcam_manager *manager, uint32_t address, uint8_t length,
                                              uint32_t result) {
     return manager ? (enum tcam_error)tcam_c_add_route(manager, address, length, result) : TCAM_NULL;
@@ -441,6 +452,44 @@ static inline enum tcam_error tcam_del_rule(struct tcam_manager *manager, uint32
     return manager ? (enum tcam_error)tcam_c_del_rule(manager, number) : TCAM_NULL;
 }
 
+/* Changes that don't ask what is there, for feeds that tell what a rule is now, or that it is gone: by tcam_put_ a
+ * route or a rule is to stand, whatever stood in its place, and by tcam_drop_ none is, whether one stood there or
+ * not. They join the batch as the strict changes above do, beside them or without, with the same answers in the same
+ * order; the first of them in a batch may want memory for those that are in it. Of several for one rule the last one
+ * counts. tcam_prepare makes the least strict changes of them that the rules as they stand then ask for: none of a
+ * rule that stands so already, a new result where the conditions are the same, a removal and an addition where they
+ * aren't. A rule of either version goes by its number. */
+static inline enum tcam_error tcam_put_route(struct tcam_manager *manager, uint32_t address, uint8_t length,
+                                             uint32_t result) {
+    return manager ? (enum tcam_error)tcam_c_put_route(manager, address, length, result) : TCAM_NULL;
+}
+
+static inline enum tcam_error tcam_drop_route(struct tcam_manager *manager, uint32_t address, uint8_t length) {
+    return manager ? (enum tcam_error)tcam_c_drop_route(manager, address, length) : TCAM_NULL;
+}
+
+static inline enum tcam_error tcam_put_rule(struct tcam_manager *manager, const struct tcam_rule *rule) {
+    return manager && rule ? (enum tcam_error)tcam_c_put_rule(manager, rule) : TCAM_NULL;
+}
+
+static inline enum tcam_error tcam_drop_rule(struct tcam_manager *manager, uint32_t number) {
+    return manager ? (enum tcam_error)tcam_c_drop_rule(manager, number) : TCAM_NULL;
+}
+
+static inline enum tcam_error tcam_put_route6(struct tcam_manager *manager, struct tcam_address address,
+                                              uint8_t length, uint32_t result) {
+    return manager ? (enum tcam_error)tcam_c_put_route6(manager, &address, length, result) : TCAM_NULL;
+}
+
+static inline enum tcam_error tcam_drop_route6(struct tcam_manager *manager, struct tcam_address address,
+                                               uint8_t length) {
+    return manager ? (enum tcam_error)tcam_c_drop_route6(manager, &address, length) : TCAM_NULL;
+}
+
+static inline enum tcam_error tcam_put_rule6(struct tcam_manager *manager, const struct tcam_rule6 *rule) {
+    return manager && rule ? (enum tcam_error)tcam_c_put_rule6(manager, rule) : TCAM_NULL;
+}
+
 /* Takes every change out of the batch. */
 static inline enum tcam_error tcam_clear(struct tcam_manager *manager) {
     return manager ? (enum tcam_error)tcam_c_clear(manager) : TCAM_NULL;
@@ -451,10 +500,29 @@ static inline enum tcam_error tcam_clear(struct tcam_manager *manager) {
  * be made. Else it answers TCAM_BUSY while a commit is under way; by the batch's changes in their order TCAM_TWICE,
  * TCAM_TAKEN or TCAM_ABSENT; TCAM_BITS; TCAM_SLOTS; or TCAM_MEMORY. Then the refusal is written, nothing is to be
  * made, and the rules and the batch are as they were: tcam_clear the batch and put other changes into it, or call
- * again when there is memory. Each packet is answered as before the call. */
+ * again when there is memory. Each packet is answered as before the call.
+ *
+ * A batch with changes by tcam_put_ or tcam_drop_ comes to strict ones over the rules, which are judged in its place.
+ * None of these is refused for what is there: TCAM_TWICE comes of one for a rule that a strict one names too, at the
+ * later of the two, and of the strict ones TCAM_TWICE, TCAM_TAKEN and TCAM_ABSENT as without them. TCAM_BATCH_FULL
+ * comes where more than 4,096 strict changes are needed, two for each rule that gets other conditions, and
+ * TCAM_MEMORY may come before any of these but TCAM_BUSY. After a refusal the batch has the changes put in. */
 static inline enum tcam_error tcam_prepare(struct tcam_manager *manager, struct tcam_numbers *numbers,
                                            struct tcam_refusal *refusal) {
     return manager && numbers && refusal ? (enum tcam_error)tcam_c_prepare(manager, numbers, refusal) : TCAM_NULL;
+}
+
+/* Has the batch judged and planned as the whole new set: the rules are to be those that its changes make of no rules
+ * at all, so what it adds or puts, and no other. Rules that aren't among them go, those that stand so already stay
+ * untouched, and others get another result or are replaced; a batch without changes takes every rule out. It answers
+ * TCAM_BUSY; TCAM_TWICE and TCAM_ABSENT by its changes in their order, as over no rules: where a strict one names a
+ * rule that is named, or changes or removes one; TCAM_BATCH_FULL where more than 4,096 strict changes are needed; and
+ * else as tcam_prepare, with TCAM_MEMORY before any of these but TCAM_BUSY. Until they are gone the old entries take
+ * their slots and bits beside the new ones. A driver that is restarted in such a commit puts each rule of the new set
+ * in by tcam_put_, and by tcam_drop_ each saved one that it lacks. */
+static inline enum tcam_error tcam_prepare_all(struct tcam_manager *manager, struct tcam_numbers *numbers,
+                                               struct tcam_refusal *refusal) {
+    return manager && numbers && refusal ? (enum tcam_error)tcam_c_prepare_all(manager, numbers, refusal) : TCAM_NULL;
 }
 
 /* Tells what is due: a write or a part of one, the same one until tcam_made comes; a drain until tcam_drained comes;
@@ -531,6 +599,16 @@ static inline enum tcam_error tcam_free_slots(struct tcam_manager *manager, uint
     return manager && slots ? (enum tcam_error)tcam_c_free_slots(manager, slots) : TCAM_NULL;
 }
 
+/* Tells the length of the longest overlap chain of the rules: of a longest list of them in which each has a higher
+ * priority than the next, and some packet matches both; 0 where there are no rules. While a commit is under way they
+ * are the rules before it. Behind a commit that only added it is the m of the bounds on insertions, of which
+ * tcam_prepare tells the longest (docs/C.md, "How long an insertion may get"). It tests each pair of rules at most
+ * once, 8 million pairs of 4,096, and takes four bytes a rule until it returns: TCAM_MEMORY comes only where they are
+ * wanting, and then longest isn't written. */
+static inline enum tcam_error tcam_longest_chain(struct tcam_manager *manager, uint32_t *longest) {
+    return manager && longest ? (enum tcam_error)tcam_c_longest_chain(manager, longest) : TCAM_NULL;
+}
+
 /* Tells the port range that a bit of a field stands for, bit 0 to 15, by its first and its last port. A driver that is
  * to be restarted saves them beside the rules. While a commit is under way they are those before it. TCAM_NO_RANGE
  * comes exactly where no range has the bit, as where there is no such field or bit and always by TCAM_COVER, and
@@ -581,11 +659,12 @@ static inline enum tcam_error tcam_restart_word(struct tcam_manager *manager, en
 /* Goes on with the commit of the pending batch, which is the one that was put in before the stop, or an empty one
  * where no commit was begun: how far it came the memory shows. With TCAM_OK the writes that are left are due, as many
  * as are written to left, and a drain where one is needed; with none left it has finished. The batch is empty then,
- * nothing is told any more, and tcam_abort answers TCAM_RESTARTED until the last tcam_made. Else it answers
- * TCAM_BESIDE, TCAM_NO_RESTART, TCAM_USED; where the rules alone refuse the batch what tcam_prepare would, with the
- * refusal; TCAM_STAGE, with the fault; or TCAM_MEMORY, which may come before it. Then all stays as it was, what was
- * told too: the memory may be repaired, told of, and the call made again. Look-ups that were under way at the stop
- * are gone. */
+ * nothing is told any more, and tcam_abort answers TCAM_RESTARTED until the last tcam_made. Changes by tcam_put_ and
+ * tcam_drop_ come to strict ones over the rules that were told, so to the same ones as before the stop. Else it
+ * answers TCAM_BESIDE, TCAM_NO_RESTART, TCAM_USED; where the rules alone refuse the batch what tcam_prepare would,
+ * with the refusal, but for TCAM_BATCH_FULL, with which nothing is written; TCAM_STAGE, with the fault; or
+ * TCAM_MEMORY, which may come before it. Then all stays as it was, what was told too: the memory may be repaired, told
+ * of, and the call made again. Look-ups that were under way at the stop are gone. */
 static inline enum tcam_error tcam_restart(struct tcam_manager *manager, uint64_t *left, struct tcam_refusal *refusal,
                                            struct tcam_restart_fault *fault) {
     return manager && left && refusal && fault ? (enum tcam_error)tcam_c_restart(manager, left, refusal, fault)

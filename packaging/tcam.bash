@@ -5,12 +5,13 @@ _tcam() {
     --ranges) words="cover bits" ;;
     --placement) words="middle rank ends" ;;
     --slots | --depth | --commit | --commits) ;; # a number, or two
-    tcam | */tcam) words="route acl route6 acl6 router gen verify draw --help --version" ;;
+    tcam | */tcam) words="route acl route6 acl6 router router6 gen verify draw --help --version" ;;
     *)
         case $command in
         route | route6) words="--slots --placement --trace --depth --json --help" ;;
         acl | acl6) words="--slots --ranges --placement --trace --depth --json --help" ;;
-        router | gen) words="--slots --ranges --placement --help" ;;
+        router | router6) words="--slots --ranges --placement --trace --help" ;;
+        gen) words="--slots --ranges --placement --help" ;;
         verify) words="--help" ;;
         draw) words="--commit --commits --occupancy --help" ;;
         esac

@@ -41,6 +41,32 @@ bool list_is_told(const struct list *list, struct tcam_manager *manager) {
     return tcam_rules(manager, &cursor, &told) == TCAM_NO_RULE && cursor == count;
 }
 
+/* Two prefixes share an address where they agree in the bits that both have. */
+static bool prefixes_meet(uint32_t prefix, uint8_t length, uint32_t other, uint8_t other_length) {
+    return in_prefix(other, prefix, length < other_length ? length : other_length);
+}
+
+static bool overlap(const struct tcam_rule *a, const struct tcam_rule *b) {
+    return prefixes_meet(a->source, a->source_length, b->source, b->source_length) &&
+           prefixes_meet(a->destination, a->destination_length, b->destination, b->destination_length) &&
+           (a->protocol == TCAM_ANY_PROTOCOL || b->protocol == TCAM_ANY_PROTOCOL || a->protocol == b->protocol) &&
+           a->source_port_first <= b->source_port_last && b->source_port_first <= a->source_port_last &&
+           a->destination_port_first <= b->destination_port_last &&
+           b->destination_port_first <= a->destination_port_last;
+}
+
+uint32_t list_longest_chain(const struct list *list) {
+    uint32_t ending[NUMBERS] = {0}, longest = 0;
+    for (int at = 0; at < NUMBERS; at++) {
+        if (!list->there[at]) continue;
+        for (int upper = 0; upper < at; upper++)
+            if (list->there[upper] && ending[upper] > ending[at] && overlap(&list->rules[upper], &list->rules[at]))
+                ending[at] = ending[upper];
+        if (++ending[at] > longest) longest = ending[at];
+    }
+    return longest;
+}
+
 uint32_t below(struct draws *draws, uint32_t bound) {
     draws->seed = draws->seed * 1664525u + 1013904223u;
     return (draws->seed >> 8) % bound;

@@ -17,6 +17,9 @@ int64_t list_answer(const struct list *list, const struct tcam_key *key);
 /* Whether a manager tells the rules of a list and no others, in their order. */
 bool list_is_told(const struct list *list, struct tcam_manager *manager);
 
+/* The length of its longest overlap chain, by all ends of chains from its first rule on. */
+uint32_t list_longest_chain(const struct list *list);
+
 /* Numbers at random, the same ones behind the same seed: one below a bound, a rule with a number and a result below a
  * bound, and a packet, of few addresses and ports, so that rules overlap. */
 struct draws {

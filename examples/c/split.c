@@ -183,8 +183,9 @@ static void commit(struct tcam_manager *manager, struct list *old, bool waits) {
     struct list new = *old;
     struct tcam_numbers numbers;
     struct tcam_refusal refusal;
-    uint32_t seed = draws.seed;
+    uint32_t seed = draws.seed, longest;
     uint64_t left = 99;
+    CHECK(tcam_longest_chain(manager, &longest) == TCAM_OK && longest == list_longest_chain(old));
     change(manager, &new);
     enum tcam_error error = tcam_prepare(manager, &numbers, &refusal);
     if (error != TCAM_OK) {

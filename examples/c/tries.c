@@ -248,7 +248,9 @@ static void commits_at_random(enum tcam_mode mode, enum tcam_placement placement
     for (int commit = 0; commit < 150; commit++) {
         struct tcam_numbers numbers;
         struct tcam_refusal refusal;
+        uint32_t longest;
         new = old;
+        CHECK(tcam_longest_chain(&manager, &longest) == TCAM_OK && longest == list_longest_chain(&old));
         if (commit % 5 == 0) take_back(&manager, &registers, &old, draws.seed);
         change(&manager, &new);
         enum tcam_error error = tcam_prepare(&manager, &numbers, &refusal);
@@ -291,7 +293,9 @@ static unsigned long wants_memory(bool split, unsigned long nth) {
         CHECK(!split || tcam_made(&manager) == TCAM_OK);
         CHECK(tcam_made(&manager) == TCAM_NOTHING_DUE && allocations == taken);
     }
-    CHECK(tcam_free(&manager) == TCAM_OK);
+    uint32_t longest = 77;
+    while ((error = tcam_longest_chain(&manager, &longest)) != TCAM_OK) CHECK(error == TCAM_MEMORY && longest == 77);
+    CHECK(longest == 1 && tcam_free(&manager) == TCAM_OK);
     failing = 0;
     return allocations;
 }

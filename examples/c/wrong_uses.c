@@ -14,6 +14,7 @@ struct told {
     uint64_t left;
     uint32_t cursor;
     uint32_t free;
+    uint32_t longest;
 };
 
 /* Every function over a handle that has no manager, and over null: nothing is written. */
@@ -47,6 +48,7 @@ static void without_manager(struct tcam_manager *manager, enum tcam_error wanted
     CHECK(tcam_answer6(manager, &key6, &told.answer) == wanted);
     CHECK(tcam_rules(manager, &told.cursor, &told.rule) == wanted);
     CHECK(tcam_free_slots(manager, &told.free) == wanted);
+    CHECK(tcam_longest_chain(manager, &told.longest) == wanted);
     CHECK(memcmp(&told, &untold, sizeof told) == 0);
 }
 
@@ -73,6 +75,7 @@ static void null_pointers(struct tcam_manager *manager) {
     CHECK(tcam_rules(manager, NULL, &rule) == TCAM_NULL);
     CHECK(tcam_rules(manager, &cursor, NULL) == TCAM_NULL);
     CHECK(tcam_free_slots(manager, NULL) == TCAM_NULL);
+    CHECK(tcam_longest_chain(manager, NULL) == TCAM_NULL);
 }
 
 static void wrong_numbers(struct tcam_manager *manager) {
@@ -267,7 +270,7 @@ static void rules_told(struct tcam_manager *manager) {
     struct tcam_numbers numbers;
     struct tcam_refusal refusal;
     struct tcam_stored told;
-    uint32_t cursor = 0, free, address;
+    uint32_t cursor = 0, free, longest, address;
     uint8_t length;
     CHECK(tcam_new(manager, 8, TCAM_COVER, TCAM_MIDDLE) == TCAM_OK);
     CHECK(tcam_add_route(manager, 0, 0, 1) == TCAM_OK && tcam_add_rule(manager, &rule) == TCAM_OK);
@@ -275,9 +278,11 @@ static void rules_told(struct tcam_manager *manager) {
     CHECK(tcam_rules(manager, &cursor, &told) == TCAM_NO_RULE && cursor == 0);
     CHECK(tcam_prepare(manager, &numbers, &refusal) == TCAM_OK && tcam_made(manager) == TCAM_OK);
     CHECK(tcam_free_slots(manager, &free) == TCAM_OK && free == 8);
+    CHECK(tcam_longest_chain(manager, &longest) == TCAM_OK && longest == 0);
     CHECK(tcam_rules(manager, &cursor, &told) == TCAM_NO_RULE && cursor == 0);
     CHECK(tcam_made(manager) == TCAM_OK && tcam_made(manager) == TCAM_OK && tcam_made(manager) == TCAM_NOTHING_DUE);
     CHECK(tcam_free_slots(manager, &free) == TCAM_OK && free == 5);
+    CHECK(tcam_longest_chain(manager, &longest) == TCAM_OK && longest == 3);
     CHECK(tcam_rules(manager, &cursor, &told) == TCAM_OK && cursor == 1 && told.result == 2);
     CHECK(tcam_route_of(told.tag, &address, &length) && address == 0x0a000000 && length == 8);
     CHECK(told.destination.upper == (uint64_t)address << 32 && told.destination_length == 8 && told.source_length == 0);

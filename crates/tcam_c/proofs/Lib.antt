@@ -4,3 +4,4 @@ pub mod Ways
 pub mod Parts
 pub mod Placed
 pub mod Restarted
+pub mod Asked

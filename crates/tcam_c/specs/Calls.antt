@@ -1,20 +1,23 @@
 -- What the calls of the library do to what stands behind a handle.
-use Rattle.std.specs.Prelude.{◌≡◌, ℕ, ◌+◌, ◌<◌, ◌≤◌, ◌++◌, ◌∷◌, [], ◌↔◌, ◌⊎◌, Result, Ok, Err, Option, Some, None, OnOk, OnErr, length, slice_get}
+use Rattle.std.specs.Prelude.{◌≡◌, ℕ, ◌+◌, ◌<◌, ◌≤◌, [], ◌↔◌, ◌⊎◌, Result, Ok, Err, Option, Some, None, OnOk, OnErr, slice_get}
 use Rattle.slot_order.specs.Order.{most_slots}
 use Rattle.rule_store.specs.Batch.{most_pending}
 use Rattle.rule_model.specs.AddressBlock.{ipv4_address}
 use Rattle.rule_model.specs.RuleSet.{IsRuleSet}
 use Rattle.rule_model.specs.declared.Key.{Key}
 use Rattle.rule_model.specs.declared.Rule.{Rule}
+use Rattle.rule_chains.specs.Chains.{IsLongestChain}
 use Rattle.rule_store.specs.declared.Command.{Command}
+use Rattle.settled_changes.specs.declared.Request.{Request}
 use Rattle.rule_store.specs.declared.PushFault.{PushFault}
 use Rattle.rule_store.specs.declared.PushFault.TheVariants as push
 use Rattle.rule_store.specs.declared.Mode.{Mode}
 use Rattle.batch_order.specs.declared.Placement.{Placement}
-use Rattle.batch_order.specs.declared.Refusal.{Refusal}
 use Rattle.tcam_c.specs.Codes.{push_code, refusal_code, mode_of_code, placement_by}
-use Rattle.tcam_c.specs.Plain.{IsAnswer, IsRefusalTold, IsStoredTold, address_number}
-use Rattle.tcam_c.specs.Tables.{AbortsTable, IsServingTable, PassesTable, PreparesTable, TellsTable, answer_of_table, slots_left_of_table, fresh_table, kind_of_table, rules_of_table}
+use Rattle.tcam_c.specs.InHand.{PreparesAll, PreparesInHand, changes_in, command_joined, held_of_table, request_joined, requests_in}
+use Rattle.tcam_c.specs.Plain.{IsAnswer, IsRefusalTold, IsStoredTold, address_number, no_refusal}
+use Rattle.tcam_c.specs.Tables.{AbortsTable, IsServingTable, PassesTable, TellsTable, answer_of_table, slots_left_of_table, fresh_table, kind_of_table, rules_of_table}
+use Rattle.tcam_c.specs.declared.in_hand.PendingBatch.TheVariants.{Strict}
 use Rattle.tcam_c.specs.declared.plain.TcamAnswer.{TcamAnswer}
 use Rattle.tcam_c.specs.declared.plain.TcamKey.{TcamKey}
 use Rattle.tcam_c.specs.declared.plain.TcamKey6.{TcamKey6}
@@ -22,6 +25,8 @@ use Rattle.tcam_c.specs.declared.plain.TcamNumbers.{TcamNumbers}
 use Rattle.tcam_c.specs.declared.plain.TcamRefusal.{TcamRefusal}
 use Rattle.tcam_c.specs.declared.plain.TcamStored.{TcamStored}
 use Rattle.tcam_c.specs.declared.plain.TcamWrite.{TcamWrite}
+use Rattle.tcam_c.specs.declared.preparing.PrepareFault.{PrepareFault}
+use Rattle.tcam_c.specs.declared.preparing.PrepareFault.TheVariants.{Refused, Full}
 use Rattle.tcam_c.specs.declared.session.Session.{Session}
 use Rattle.tcam_c.specs.declared.steps.DueKind.{DueKind}
 use Rattle.tcam_c.specs.declared.steps.DueKind.TheVariants as kind
@@ -58,8 +63,8 @@ Called does (Some before) new code = (after : Session) × (new ≡ Some after) �
 abbrev pub Pushes : Command → Session → Session → ℕ → Type 0
 Pushes command before after code =
     (pushed : Result (Unit {0}) PushFault) × (code ≡ push_code pushed)
-    × OnOk pushed (after ≡ record before { batch = before.batch ++ command ∷ [] })
-    × ((pushed ≡ Err push.Full) ↔ (length before.batch ≡ most_pending))
+    × OnOk pushed (after ≡ record before { batch = command_joined before.batch command })
+    × ((pushed ≡ Err push.Full) ↔ (changes_in before.batch ≡ most_pending))
     × OnErr pushed (after ≡ before)
 
 -- a change that plain numbers stand for, or the code of what is wrong with them
@@ -70,9 +75,24 @@ Enters (Err fault) before after code = (code ≡ fault) × (after ≡ before)
 abbrev pub Entered : (Result Command ℕ → Type 0) → Option Session → Option Session → ℕ → Type 0
 Entered Stands old new code = (wanted : Result Command ℕ) × Stands wanted × Called (Enters wanted) old new code
 
+-- a forgiving change likewise
+abbrev pub Asks : Request → Session → Session → ℕ → Type 0
+Asks request before after code =
+    (pushed : Result (Unit {0}) PushFault) × (code ≡ push_code pushed)
+    × OnOk pushed (after ≡ record before { batch = request_joined before.batch request })
+    × ((pushed ≡ Err push.Full) ↔ (changes_in before.batch ≡ most_pending))
+    × OnErr pushed (after ≡ before)
+
+abbrev pub AsksOr : Result Request ℕ → Session → Session → ℕ → Type 0
+AsksOr (Ok request) before after code = Asks request before after code
+AsksOr (Err fault) before after code = (code ≡ fault) × (after ≡ before)
+
+abbrev pub AskedFor : (Result Request ℕ → Type 0) → Option Session → Option Session → ℕ → Type 0
+AskedFor Stands old new code = (wanted : Result Request ℕ) × Stands wanted × Called (AsksOr wanted) old new code
+
 -- every change is taken out of the batch
 abbrev pub Clears : Session → Session → ℕ → Type 0
-Clears before after code = (code ≡ 0) × (after ≡ record before { batch = [] })
+Clears before after code = (code ≡ 0) × (after ≡ record before { batch = Strict [] })
 
 -- the manager is freed
 abbrev pub IsFreed : Option Session → Option Session → ℕ → Type 0
@@ -81,15 +101,25 @@ IsFreed (Some before) new code = (code ≡ 0) × (new ≡ None)
 
 -- The batch is judged and planned: the manager's own clauses, with the code of the answer, and what is told of it. Where it is
 -- taken it is empty then. Before the first write each key is answered as before the call.
-abbrev pub Told : TcamNumbers → TcamNumbers → TcamRefusal → TcamRefusal → Result TcamNumbers Refusal → ℕ → Type 0
+abbrev pub Told : TcamNumbers → TcamNumbers → TcamRefusal → TcamRefusal → Result TcamNumbers PrepareFault → ℕ → Type 0
 Told numbers numbers' refusal refusal' (Ok counts) code = (code ≡ 0) × (numbers' ≡ counts) × (refusal' ≡ refusal)
-Told numbers numbers' refusal refusal' (Err fault) code =
+Told numbers numbers' refusal refusal' (Err (Refused fault)) code =
     (code ≡ refusal_code fault) × (numbers' ≡ numbers) × IsRefusalTold fault refusal'
+Told numbers numbers' refusal refusal' (Err Full) code = (code ≡ 10) × (numbers' ≡ numbers) × (refusal' ≡ no_refusal)
 
 abbrev pub Prepared : TcamNumbers → TcamNumbers → TcamRefusal → TcamRefusal → Session → Session → ℕ → Type 0
 Prepared numbers numbers' refusal refusal' before after code =
-    (judged : Result TcamNumbers Refusal) × PreparesTable before.batch judged before.table after.table
-    × OnOk judged ((after.batch ≡ []) × (after.told ≡ before.told))
+    (judged : Result TcamNumbers PrepareFault) × PreparesInHand before.batch judged before.table after.table
+    × OnOk judged ((after.batch ≡ Strict []) × (after.told ≡ before.told))
+    × OnErr judged (after ≡ before)
+    × Told numbers numbers' refusal refusal' judged code
+
+-- and likewise with the changes as the whole new set
+abbrev pub PreparedAll : TcamNumbers → TcamNumbers → TcamRefusal → TcamRefusal → Session → Session → ℕ → Type 0
+PreparedAll numbers numbers' refusal refusal' before after code =
+    (judged : Result TcamNumbers PrepareFault)
+    × PreparesAll (held_of_table before.table) (requests_in before.batch) judged before.table after.table
+    × OnOk judged ((after.batch ≡ Strict []) × (after.told ≡ before.told))
     × OnErr judged (after ≡ before)
     × Told numbers numbers' refusal refusal' judged code
 
@@ -146,9 +176,16 @@ ListsRule cursor cursor' told told' before after code =
 abbrev pub TellsFree : ℕ → Session → Session → ℕ → Type 0
 TellsFree free before after code = (code ≡ 0) × (after ≡ before) × (free ≡ slots_left_of_table before.table)
 
+-- The length of the longest overlap chain of the rules is told, or memory to find it is wanting, and then nothing is told.
+-- Nothing else changes. While a commit is under way the rules are the old set.
+abbrev pub TellsChain : ℕ → ℕ → Session → Session → ℕ → Type 0
+TellsChain longest longest' before after code =
+    (after ≡ before)
+    × (((code ≡ 0) × IsLongestChain (rules_of_table before.table) longest') ⊎ ((code ≡ 11) × (longest' ≡ longest)))
+
 -- a manager without rules, of a blank memory of this kind
 abbrev pub fresh_session : TableKind → ℕ → Mode → Placement → Session
-fresh_session table_kind slots mode placement = record { table = fresh_table table_kind slots mode placement; batch = []; told = None }
+fresh_session table_kind slots mode placement = record { table = fresh_table table_kind slots mode placement; batch = Strict []; told = None }
 
 -- A manager is made of a blank memory, where the handle has none and the numbers are right.
 abbrev pub MakesOf : TableKind → ℕ → Option Mode → Option Placement → Option Session → ℕ → Type 0

@@ -4,7 +4,9 @@ pub mod Owned
 pub mod Plain
 pub mod Codes
 pub mod Codes6
+pub mod Puts
 pub mod Tables
+pub mod InHand
 pub mod Calls
 pub mod Ranges
 pub mod Told

@@ -3,9 +3,14 @@ use Rattle.std.specs.Prelude.{◌≡◌, ℕ, ◌<◌, [], ◌⊎◌, Result, Ok
 use Rattle.slot_order.specs.Order.{most_slots}
 use Rattle.rule_store.specs.declared.Command.{Command}
 use Rattle.rule_store.specs.declared.Mode.{Mode}
+use Rattle.settled_changes.specs.declared.SettleFault.{SettleFault}
+use Rattle.settled_changes.specs.declared.SettleFault.TheVariants as settling
+use Rattle.settled_changes.specs.Requests.{AreTaken}
+use Rattle.settled_changes.specs.Settled as changes
 use Rattle.tcam_device.specs.State.{State, replay}
 use Rattle.tcam_device.specs.Flight.{writes_in}
 use Rattle.readback.specs.declared.Parts.{Parts}
+use Rattle.readback.specs.declared.Rejection.TheVariants as rejections
 use Rattle.readback.specs.declared.StageFault.{StageFault}
 use Rattle.readback.specs.declared.StageFault.TheVariants as stage
 use Rattle.batch_order.specs.CarriedOut.{writes_left}
@@ -20,6 +25,10 @@ use Rattle.tcam_c.specs.Driven.{Driven, IsServing, settled}
 use Rattle.tcam_c.specs.Plain.{IsRefusalTold, IsTag, field_code, no_tag}
 use Rattle.tcam_c.specs.Told.{Account, blank_account}
 use Rattle.tcam_c.specs.declared.plain.TcamRefusal.{TcamRefusal}
+use Rattle.tcam_c.specs.declared.in_hand.PendingBatch.{PendingBatch}
+use Rattle.tcam_c.specs.declared.in_hand.PendingBatch.TheVariants.{Strict, Asked}
+use Rattle.tcam_c.specs.declared.restarting.GoOnFault.{GoOnFault}
+use Rattle.tcam_c.specs.declared.restarting.GoOnFault.TheVariants as go_on
 use Rattle.tcam_c.specs.declared.stage_told.TcamRestartFault.{TcamRestartFault}
 use Rattle.tcam_c.specs.declared.session.Session.{Session}
 use Rattle.tcam_c.specs.declared.table.Table.{Table}
@@ -135,18 +144,42 @@ pub record RefusesTold (told : Account) (batch : List Command) (fault : RestartF
   pub back : Parts
   pub answers : AnswersTold told batch parts (Err (fault, back))
 
+-- It goes on with the commit of the batch in hand. Requests are settled over the rules that were told: so those that a batch came of
+-- come to the same one again.
+abbrev pub GoesOnFor : Account → PendingBatch → Driven → Type 0
+GoesOnFor told (Strict batch) driven = GoesOnTold told batch driven
+GoesOnFor told (Asked requests) driven = AreTaken told.rules requests × GoesOnTold told (changes.settled told.rules requests) driven
+
+-- why it doesn't: a restart is refused, or the requests come to no batch
+abbrev pub RefusesFor : Account → PendingBatch → GoOnFault → Type 0
+RefusesFor told (Strict batch) (go_on.Restart fault) = RefusesTold told batch fault
+RefusesFor told (Strict batch) (go_on.Unsettled fault) = ⊥
+RefusesFor told (Asked requests) (go_on.Restart fault) = AreTaken told.rules requests × RefusesTold told (changes.settled told.rules requests) fault
+RefusesFor told (Asked requests) (go_on.Unsettled fault) = changes.IsWhyUnsettled told.rules requests fault
+
+abbrev pub IsSettleReply : SettleFault → Reply → Reply → ℕ → Type 0
+IsSettleReply (settling.Unsound fault) was now code =
+    (code ≡ refusal_code (Rejected (rejections.Unsound fault))) × IsRefusalTold (Rejected (rejections.Unsound fault)) now.refusal
+    × (now ≡ record was { refusal = now.refusal })
+IsSettleReply settling.Full was now code = (code ≡ 10) × (now ≡ was)
+IsSettleReply settling.Memory was now code = (code ≡ 11) × (now ≡ was)
+
+abbrev pub IsGoOnReply : GoOnFault → Reply → Reply → ℕ → Type 0
+IsGoOnReply (go_on.Restart fault) was now code = IsFaultReply fault was now code
+IsGoOnReply (go_on.Unsettled fault) was now code = IsSettleReply fault was now code
+
 -- A restart with the batch. With a manager that goes on the batch is empty then, and nothing is told; else all is as before.
 pub record GoesOnWith (told : Account) (was now : Reply) (before after : Session) : Type 0 where
   pub driven : Driven
-  pub goes_on : GoesOnTold told before.batch driven
-  pub after_is : after ≡ record { table = Whole driven; batch = []; told = None }
+  pub goes_on : GoesOnFor told before.batch driven
+  pub after_is : after ≡ record { table = Whole driven; batch = Strict []; told = None }
   pub left : now ≡ record was { left = length (writes_left driven.manager.held) }
 
 pub record IsRefusedWith (told : Account) (was now : Reply) (before after : Session) (code : ℕ) : Type 0 where
-  pub fault : RestartFault
-  pub refuses : RefusesTold told before.batch fault
+  pub fault : GoOnFault
+  pub refuses : RefusesFor told before.batch fault
   pub same : after ≡ before
-  pub replies : IsFaultReply fault was now code
+  pub replies : IsGoOnReply fault was now code
 
 abbrev pub TakesUpUnused : Account → Reply → Reply → Session → Session → ℕ → Type 0
 TakesUpUnused told was now before after code =

@@ -2,6 +2,7 @@
 
 ghost use Rattle.std.specs.Prelude.{◌≡◌};
 ghost use Rattle.tcam_c.specs.Codes.{AddsRoute, AddsRule, DelsRoute, DelsRule, IsPrefixOr, SetsRoute, SetsRule};
+ghost use Rattle.tcam_c.specs.Puts.{IsListRuleOr};
 
 use crate::codes::{HOST_BITS, NUMBER, PORTS, PREFIX_LENGTH, PROTOCOL};
 use crate::plain::TcamRule;
@@ -9,7 +10,7 @@ use rule_model::{Ports, Prefix, PrefixFault, Rule, ipv4_route_rank, list_rank, r
 use rule_store::Command;
 
 /// A prefix of IPv4, or the code of what is wrong with the numbers.
-fn prefix_of(address: u32, length: u8) -> Result<Prefix, u32>
+pub(crate) fn prefix_of(address: u32, length: u8) -> Result<Prefix, u32>
     ensures { IsPrefixOr address length result }
 {
     match Prefix::v4(address, length) {
@@ -52,9 +53,9 @@ pub(crate) fn dels_route(address: u32, length: u8) -> Result<Command, u32>
     }
 }
 
-/// The addition of a rule of an access list.
-pub(crate) fn adds_rule(rule: &TcamRule) -> Result<Command, u32>
-    ensures { AddsRule rule.now result }
+/// The rule of an access list that plain numbers stand for.
+pub(crate) fn list_rule_of(rule: &TcamRule) -> Result<Rule, u32>
+    ensures { IsListRuleOr rule.now result }
 {
     if rule.number == 0 {
         return Err(NUMBER);
@@ -81,7 +82,7 @@ pub(crate) fn adds_rule(rule: &TcamRule) -> Result<Command, u32>
     } else {
         Some(rule.protocol as u8)
     };
-    Ok(Command::Add(Rule {
+    Ok(Rule {
         priority: list_rank(rule.number),
         src,
         dst,
@@ -89,7 +90,17 @@ pub(crate) fn adds_rule(rule: &TcamRule) -> Result<Command, u32>
         sport,
         dport,
         result: rule.result,
-    }))
+    })
+}
+
+/// The addition of a rule of an access list.
+pub(crate) fn adds_rule(rule: &TcamRule) -> Result<Command, u32>
+    ensures { AddsRule rule.now result }
+{
+    match list_rule_of(rule) {
+        Ok(made) => Ok(Command::Add(made)),
+        Err(code) => Err(code),
+    }
 }
 
 /// The change of such a rule's result.

@@ -3,6 +3,7 @@
 ghost use Rattle.std.specs.Prelude.{◌≡◌};
 ghost use Rattle.tcam_c.specs.Plain.{address_number};
 ghost use Rattle.tcam_c.specs.Codes6.{AddsRoute6, AddsRule6, DelsRoute6, IsPrefix6Or, SetsRoute6};
+ghost use Rattle.tcam_c.specs.Puts.{IsListRule6Or};
 
 use crate::codes::{HOST_BITS, NUMBER, PORTS, PREFIX_LENGTH, PROTOCOL};
 use crate::plain::{TcamAddress, TcamRule6};
@@ -62,9 +63,9 @@ pub(crate) fn dels_route6(address: &TcamAddress, length: u8) -> Result<Command, 
     }
 }
 
-/// The addition of a rule of an access list.
-pub(crate) fn adds_rule6(rule: &TcamRule6) -> Result<Command, u32>
-    ensures { AddsRule6 rule.now result }
+/// The rule of an access list that plain numbers stand for.
+pub(crate) fn list_rule6_of(rule: &TcamRule6) -> Result<Rule, u32>
+    ensures { IsListRule6Or rule.now result }
 {
     if rule.number == 0 {
         return Err(NUMBER);
@@ -91,7 +92,7 @@ pub(crate) fn adds_rule6(rule: &TcamRule6) -> Result<Command, u32>
     } else {
         Some(rule.protocol as u8)
     };
-    Ok(Command::Add(Rule {
+    Ok(Rule {
         priority: list_rank(rule.number),
         src,
         dst,
@@ -99,5 +100,15 @@ pub(crate) fn adds_rule6(rule: &TcamRule6) -> Result<Command, u32>
         sport,
         dport,
         result: rule.result,
-    }))
+    })
+}
+
+/// The addition of a rule of an access list.
+pub(crate) fn adds_rule6(rule: &TcamRule6) -> Result<Command, u32>
+    ensures { AddsRule6 rule.now result }
+{
+    match list_rule6_of(rule) {
+        Ok(made) => Ok(Command::Add(made)),
+        Err(code) => Err(code),
+    }
 }

@@ -1,20 +1,21 @@
 //! The functions that C calls.
 
 ghost use Rattle.std.specs.Prelude.{◌≡◌, ◌≤◌, Some, None, IfSome, IsSome, IsNone};
-ghost use Rattle.tcam_c.specs.Calls.{AnswersPacket, Called, Clears, Enters, Entered, IsFreed, IsMade, ListsRule, MakesOf, Nexts, Prepared, TellsWrite, TellsDrain, TellsAbort, TellsFree, fresh_session, packet_key};
+ghost use Rattle.tcam_c.specs.Calls.{AnswersPacket, Called, Clears, Entered, Enters, IsFreed, IsMade, ListsRule, MakesOf, Nexts, Prepared, TellsAbort, TellsChain, TellsDrain, TellsFree, TellsWrite, Told, fresh_session, packet_key};
 ghost use Rattle.tcam_c.specs.Codes.{AddsRoute, AddsRule, DelsRoute, DelsRule, SetsRoute, SetsRule};
 ghost use Rattle.tcam_c.specs.Tables.{IsServingTable, fresh_table};
 
 use crate::changes::{adds_route, adds_rule, dels_route, dels_rule, sets_route, sets_rule};
 use crate::codes::{
-    DRAIN_DUE, MADE_ALREADY, MEMORY, NO_MANAGER, NO_MODE, NO_PLACEMENT, NO_RULE, NOTHING_DUE, OK,
-    SLOTS_RANGE, WRITE_DUE, code_of_push, code_of_refusal, mode_of, placement_of,
+    BATCH_FULL, DRAIN_DUE, MADE_ALREADY, MEMORY, NO_MANAGER, NO_MODE, NO_PLACEMENT, NO_RULE,
+    NOTHING_DUE, OK, SLOTS_RANGE, WRITE_DUE, code_of_push, code_of_refusal, mode_of, placement_of,
 };
 use crate::handle::TcamManager;
 use crate::plain::{
-    TcamAnswer, TcamKey, TcamNumbers, TcamRefusal, TcamRule, TcamStored, TcamWrite, answer_of,
-    refusal_of, stored_of,
+    NO_REFUSAL, TcamAnswer, TcamKey, TcamNumbers, TcamRefusal, TcamRule, TcamStored, TcamWrite,
+    answer_of, refusal_of, stored_of,
 };
+use crate::preparing::PrepareFault;
 use crate::session::Session;
 use crate::steps::DueKind;
 use crate::table::TableKind;
@@ -22,7 +23,7 @@ use batch_order::{Mode, Placement};
 use rule_model::Key;
 use rule_store::Command;
 use slot_order::MOST_SLOTS;
-use std::alloc::Global;
+use std::alloc::{AllocError, Global};
 
 /// Makes a manager of a blank memory with so many slots, 1 to 4,096, and no rules. Mode 0 cuts port ranges by covers, 1
 /// by bits; placement 0 aims at the middle of a gap, 1 at the slot of a rule's rank. A handle that has a manager stays
@@ -230,7 +231,7 @@ pub extern "C" fn tcam_c_clear(manager: &mut TcamManager, alloc: Global) -> u32
     let Some(mut session) = manager.take(alloc) else {
         return NO_MANAGER;
     };
-    session.clear();
+    session.clear(alloc);
     manager.put(session);
     OK
 }
@@ -250,18 +251,33 @@ pub extern "C" fn tcam_c_prepare(
     let Some(mut session) = manager.take(alloc) else {
         return NO_MANAGER;
     };
-    let code = match session.prepare() {
+    let judged = session.prepare(alloc);
+    manager.put(session);
+    tell_prepared(judged, numbers, refusal)
+}
+
+/// Tells what a batch was answered.
+pub(crate) fn tell_prepared(
+    judged: Result<TcamNumbers, PrepareFault>,
+    numbers: &mut TcamNumbers,
+    refusal: &mut TcamRefusal,
+) -> u32
+    ensures { Told numbers.old numbers.new refusal.old refusal.new judged result }
+{
+    match judged {
         Ok(counts) => {
             *numbers = counts;
             OK
         }
-        Err(fault) => {
+        Err(PrepareFault::Refused(fault)) => {
             *refusal = refusal_of(&fault);
             code_of_refusal(&fault)
         }
-    };
-    manager.put(session);
-    code
+        Err(PrepareFault::Full) => {
+            *refusal = NO_REFUSAL;
+            BATCH_FULL
+        }
+    }
 }
 
 /// Tells what is due: a write or a part of one, a drain, or nothing where no commit is under way. Of a commit that is turned
@@ -414,4 +430,29 @@ pub extern "C" fn tcam_c_free_slots(
     *slots = session.slots_left();
     manager.put(session);
     OK
+}
+
+/// Tells the length of the longest overlap chain of the set; while a commit is under way, of the old set. It takes four bytes a
+/// rule until it returns, and for want of them alone it tells nothing. It changes nothing else.
+#[unsafe(no_mangle)]
+pub extern "C" fn tcam_c_longest_chain(
+    manager: &mut TcamManager,
+    longest: &mut u32,
+    alloc: Global,
+) -> u32
+    ensures told { Called (TellsChain longest.old longest.new) manager.old.held.session manager.new.held.session result }
+    ensures untold { IsNone manager.old.held.session → longest.new ≡ longest.old }
+{
+    let Some(session) = manager.take(alloc) else {
+        return NO_MANAGER;
+    };
+    let code = match session.longest_chain(alloc) {
+        Err(AllocError) => MEMORY,
+        Ok(found) => {
+            *longest = found;
+            OK
+        }
+    };
+    manager.put(session);
+    code
 }

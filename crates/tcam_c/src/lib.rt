@@ -15,6 +15,10 @@
 //! `split_order::SplitManager`. The calls are the same ones: `tcam_next` tells of the second the parts of a write, a result
 //! word being a kind of its own, and its drains, for which nothing may be under way.
 //!
+//! **What may be asked.** A change is strict, and fails where the set isn't as it takes it to be, or forgiving: a rule is to
+//! stand, or to go, whatever was there. A batch with forgiving ones is settled over the set where it is prepared
+//! (`settled_changes`), or read as the whole new set; what it comes to is a batch as any other.
+//!
 //! **What C holds.** A [`TcamManager`] is two words in the caller's own memory: whether there is a manager, and a
 //! pointer to what belongs to it. One that is all zeros is a manager that isn't made, and each call says so. So the
 //! handle's misuses that a program can see are answered by a code: no manager, a manager that is made twice, freed
@@ -53,6 +57,8 @@
 //!   what is wrong with a prefix is said by its version; behind them all is the same.
 //! - **The rules are told by a cursor that is a place in their order**, so that the library keeps nothing of a walk, and C
 //!   may give any number.
+//! - **A batch is of strict commands until the first forgiving change** ([`in_hand`]), so that what is said of strict batches
+//!   stays, and that want of memory comes before no fault of theirs. From then on it is of requests, each in its place.
 //! - **A handle is two words**, a flag and a pointer to bytes. An export can answer no pointer, and takes no struct
 //!   whose Rust type points to one with a `Vec`, so what the bytes own is said in ghost data. By the flag a misuse is
 //!   told without a test of the pointer, which needs a proof about where it points. Each call takes what stands behind
@@ -65,11 +71,15 @@ mod codes;
 mod exports;
 mod exports6;
 mod handle;
+mod in_hand;
 mod loose;
 mod moved;
 mod outside;
 mod part_steps;
 mod plain;
+mod preparing;
+mod put_exports;
+mod puts;
 mod restart_exports;
 mod restart_steps;
 mod restarting;

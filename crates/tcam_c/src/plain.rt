@@ -173,7 +173,7 @@ const NO_WRITE: TcamWrite = TcamWrite {
     word: 0,
 };
 
-const NO_REFUSAL: TcamRefusal = TcamRefusal {
+pub(crate) const NO_REFUSAL: TcamRefusal = TcamRefusal {
     left: 0,
     tag: NO_TAG,
     field: 0,

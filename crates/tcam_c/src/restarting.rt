@@ -1,19 +1,33 @@
 //! What a restart does with what stands behind a handle.
 
-ghost use Rattle.std.specs.Prelude.{◌≡◌, ℕ};
-ghost use Rattle.tcam_c.specs.Restart.{BeginsRestart, ForgetsTold, IsFaultReply, TakesUp, TellsMore, answer_code, reply};
+ghost use Rattle.std.specs.Prelude.{◌≡◌, ℕ, IfErr, IfOk};
+ghost use Rattle.tcam_c.specs.Restart.{BeginsRestart, ForgetsTold, GoesOnFor, IsFaultReply, IsGoOnReply, RefusesFor, TakesUp, TellsMore, answer_code, reply};
 ghost use Rattle.tcam_c.specs.Told.{AddsRange, AddsSlot, AddsWord, TakesRule};
 
-use crate::codes::{BESIDE, MEMORY, NO_RESTART, OK, SLOTS_RANGE, STAGE, USED, code_of_refusal};
+use crate::codes::{
+    BATCH_FULL, BESIDE, MEMORY, NO_RESTART, OK, SLOTS_RANGE, STAGE, USED, code_of_refusal,
+};
+use crate::in_hand::PendingBatch;
 use crate::plain::{TcamRefusal, TcamStored, TcamWrite, refusal_of};
 use crate::session::Session;
 use crate::stage_told::{TcamRestartFault, stage_told};
 use crate::table::Table;
 use crate::told::Told;
-use batch_order::{Refusal, RestartFault};
+use crate::whole::WholeTable;
+use batch_order::{Refusal, Rejection, RestartFault};
 use readback::StageFault;
+use settled_changes::{SettleFault, settle};
 use slot_order::MOST_SLOTS;
 use std::alloc::{AllocError, Global};
+
+/// Why no manager goes on.
+#[derive(Drop)]
+pub(crate) enum GoOnFault {
+    /// The restart is refused.
+    Restart(RestartFault),
+    /// The batch in hand comes to no commands.
+    Unsettled(SettleFault),
+}
 
 impl Session {
     /// Begins a restart: nothing is told yet, also where another one was begun.
@@ -112,18 +126,42 @@ impl Session {
             self.told = Some(told);
             return USED;
         }
-        match told.restart(alloc, &self.batch) {
+        match go_on_with(told, alloc, &self.batch) {
             Ok(table) => {
                 *left = table.left();
                 self.table = Table::Whole(table);
-                self.batch.clear();
+                self.batch.clear(alloc);
                 OK
             }
             Err((refused, told)) => {
                 self.told = Some(told);
-                tell_fault(&refused, refusal, fault)
+                tell_why(&refused, refusal, fault)
             }
         }
+    }
+}
+
+/// A manager that goes on with the commit of the batch in hand, which is settled over the rules that were told.
+fn go_on_with(
+    told: Told,
+    alloc: Global,
+    batch: &PendingBatch,
+) -> Result<WholeTable, (GoOnFault, Told)>
+    ensures goes_on { IfOk result (GoesOnFor told batch.now) }
+    ensures refused { IfErr result (λ refused. RefusesFor told batch.now refused.0 × (refused.1 ≡ told)) }
+{
+    match batch {
+        PendingBatch::Strict(batch) => match told.restart(alloc, batch) {
+            Ok(table) => Ok(table),
+            Err((fault, told)) => Err((GoOnFault::Restart(fault), told)),
+        },
+        PendingBatch::Asked(requests) => match settle(alloc, told.rules(), requests) {
+            Ok(batch) => match told.restart(alloc, &batch) {
+                Ok(table) => Ok(table),
+                Err((fault, told)) => Err((GoOnFault::Restart(fault), told)),
+            },
+            Err(fault) => Err((GoOnFault::Unsettled(fault), told)),
+        },
     }
 }
 
@@ -138,6 +176,22 @@ fn code_told(answer: Result<(), u32>) -> u32
 }
 
 /// Tells why no manager goes on.
+fn tell_why(refused: &GoOnFault, refusal: &mut TcamRefusal, fault: &mut TcamRestartFault) -> u32
+    ensures { (left : ℕ) → IsGoOnReply refused.now (reply left refusal.old fault.old) (reply left refusal.new fault.new) result }
+{
+    match refused {
+        GoOnFault::Restart(restart) => tell_fault(restart, refusal, fault),
+        GoOnFault::Unsettled(SettleFault::Unsound(unsound)) => {
+            let verdict = Refusal::Rejected(Rejection::Unsound(*unsound));
+            *refusal = refusal_of(&verdict);
+            code_of_refusal(&verdict)
+        }
+        GoOnFault::Unsettled(SettleFault::Full) => BATCH_FULL,
+        GoOnFault::Unsettled(SettleFault::Memory) => MEMORY,
+    }
+}
+
+/// Tells why a restart is refused.
 fn tell_fault(
     refused: &RestartFault,
     refusal: &mut TcamRefusal,

@@ -1,21 +1,26 @@
 //! What stands behind a handle: a manager with its memory, and the batch that waits for it.
 
-ghost use Rattle.std.specs.Prelude.{◌≡◌, ◌≤◌, ◌<◌, ◌+◌, ◌^◌, ◌++◌, ◌∷◌, [], ◌↔◌, Err, IfOk, OnOk, OnErr, IsSome, length, option_map, slice_get};
+ghost use Rattle.std.specs.Prelude.{◌≡◌, ◌≤◌, ◌<◌, ◌+◌, ◌^◌, [], ◌↔◌, Err, IfOk, OnOk, OnErr, IsSome, option_map, slice_get};
 ghost use Rattle.rule_store.specs.Batch.{most_pending};
 ghost use Rattle.rule_model.specs.RuleSet.{IsRuleSet};
+ghost use Rattle.rule_chains.specs.Chains.{IsLongestChain};
 ghost use Rattle.tcam_c.specs.Calls.{fresh_session};
 ghost use Rattle.tcam_c.specs.Driven.{IsDue};
+ghost use Rattle.tcam_c.specs.InHand.{PreparesAll, PreparesInHand, changes_in, command_joined, held_of_table, request_joined, requests_in};
 ghost use Rattle.tcam_c.specs.Ranges.{bits_of_table, both_fields};
-ghost use Rattle.tcam_c.specs.Tables.{AbortsTable, IsServingTable, PassesTable, PreparesTable, TellsTable, answer_of_table, slots_left_of_table, fresh_table, kind_of_table, rules_of_table};
+ghost use Rattle.tcam_c.specs.Tables.{AbortsTable, IsServingTable, PassesTable, TellsTable, answer_of_table, slots_left_of_table, fresh_table, kind_of_table, rules_of_table};
 
+use crate::in_hand::PendingBatch;
 use crate::plain::{TcamNumbers, TcamWrite};
+use crate::preparing::{PrepareFault, prepare_all, prepare_asked, prepare_strict};
 use crate::steps::DueKind;
 use crate::table::{Table, TableKind};
 use crate::told::Told;
-use batch_order::{Mode, Placement, Refusal};
+use batch_order::{Mode, Placement};
 use range_bits::BitMap;
 use rule_model::{Key, Rank, Rule};
-use rule_store::{Batch, Command, PushFault};
+use rule_store::{Command, PushFault};
+use settled_changes::Request;
 use slot_order::MOST_SLOTS;
 use std::alloc::{AllocError, Global};
 
@@ -23,7 +28,7 @@ use std::alloc::{AllocError, Global};
 #[derive(Drop)]
 pub(crate) struct Session {
     pub(crate) table: Table,
-    pub(crate) batch: Batch,
+    pub(crate) batch: PendingBatch,
     // What is told of a restart that is begun.
     pub(crate) told: Option<Told>,
 }
@@ -44,7 +49,7 @@ impl Session {
         ensures serves { OnOk result (IsServingTable (fresh_table kind slots mode placement)) }
     {
         let table = Table::new(alloc, kind, slots, mode, placement)?;
-        let batch = Batch::new(alloc);
+        let batch = PendingBatch::new(alloc);
         Ok(Session {
             table,
             batch,
@@ -54,31 +59,55 @@ impl Session {
 
     /// Puts a change behind the others of the batch.
     pub(crate) fn push(&mut self, command: Command) -> Result<(), PushFault>
-        ensures pushed { OnOk result (self.new ≡ record self.old { batch = self.old.batch ++ command ∷ [] }) }
-        ensures full { (result ≡ Err PushFault.Full) ↔ (length self.old.batch ≡ most_pending) }
+        ensures pushed { OnOk result (self.new ≡ record self.old { batch = command_joined self.old.batch command }) }
+        ensures full { (result ≡ Err PushFault.Full) ↔ (changes_in self.old.batch ≡ most_pending) }
         ensures same { OnErr result (self.new ≡ self.old) }
     {
         self.batch.push(command)
     }
 
-    /// Takes every change out of the batch.
-    pub(crate) fn clear(&mut self)
-        ensures { self.new ≡ record self.old { batch = [] } }
+    /// Puts a forgiving change behind the others.
+    pub(crate) fn ask(&mut self, alloc: Global, request: Request) -> Result<(), PushFault>
+        ensures asked { OnOk result (self.new ≡ record self.old { batch = request_joined self.old.batch request }) }
+        ensures full { (result ≡ Err PushFault.Full) ↔ (changes_in self.old.batch ≡ most_pending) }
+        ensures same { OnErr result (self.new ≡ self.old) }
     {
-        self.batch.clear();
+        self.batch.ask(alloc, request)
+    }
+
+    /// Takes every change out of the batch.
+    pub(crate) fn clear(&mut self, alloc: Global)
+        ensures { self.new ≡ record self.old { batch = PendingBatch.Strict [] } }
+    {
+        self.batch.clear(alloc);
     }
 
     /// Has the batch judged and planned. Where it is taken the batch is empty then, and a commit with nothing to make
     /// has finished. A refusal leaves all as it was.
-    pub(crate) fn prepare(&mut self) -> Result<TcamNumbers, Refusal>
-        ensures prepared { PreparesTable self.old.batch result self.old.table self.new.table }
-        ensures taken { OnOk result (self.new.batch ≡ []) }
-        ensures told { self.new.told ≡ self.old.told }
+    pub(crate) fn prepare(&mut self, alloc: Global) -> Result<TcamNumbers, PrepareFault>
+        ensures prepared { PreparesInHand self.old.batch result self.old.table self.new.table }
+        ensures taken { OnOk result ((self.new.batch ≡ PendingBatch.Strict []) × (self.new.told ≡ self.old.told)) }
         ensures refused { OnErr result (self.new ≡ self.old) }
     {
-        let answer = self.table.prepare(&self.batch);
+        let answer = match &self.batch {
+            PendingBatch::Strict(batch) => prepare_strict(&mut self.table, batch),
+            PendingBatch::Asked(requests) => prepare_asked(&mut self.table, alloc, requests),
+        };
         if answer.is_ok() {
-            self.batch.clear();
+            self.batch.clear(alloc);
+        }
+        answer
+    }
+
+    /// Likewise with the changes of the batch as the whole new set: what they make of no rules.
+    pub(crate) fn prepare_all(&mut self, alloc: Global) -> Result<TcamNumbers, PrepareFault>
+        ensures prepared { PreparesAll (held_of_table self.old.table) (requests_in self.old.batch) result self.old.table self.new.table }
+        ensures taken { OnOk result ((self.new.batch ≡ PendingBatch.Strict []) × (self.new.told ≡ self.old.told)) }
+        ensures refused { OnErr result (self.new ≡ self.old) }
+    {
+        let answer = prepare_all(&mut self.table, alloc, &self.batch);
+        if answer.is_ok() {
+            self.batch.clear(alloc);
         }
         answer
     }
@@ -133,6 +162,13 @@ impl Session {
         ensures falling { IsRuleSet (rules_of_table self.now.table) }
     {
         self.table.rule_at_place(place)
+    }
+
+    /// The length of the longest overlap chain of the set. It fails only for want of memory.
+    pub(crate) fn longest_chain(&self, alloc: Global) -> Result<u32, AllocError>
+        ensures { IfOk result (λ longest. IsLongestChain (rules_of_table self.now.table) longest) }
+    {
+        self.table.longest_chain(alloc)
     }
 
     /// The live port ranges of the set by their bits, of the source field and of the destination's. None comes where

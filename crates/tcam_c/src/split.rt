@@ -1,11 +1,12 @@
 //! A manager of a memory whose results stand beside its slots, and the shadow of the caller's memory.
 
-ghost use Rattle.std.specs.Prelude.{◌≡◌, ◌≤◌, ◌<◌, ◌+◌, ◌^◌, IfOk, IsSome, OnOk, OnErr, slice_get};
+ghost use Rattle.std.specs.Prelude.{◌≡◌, ◌≤◌, ◌<◌, ◌+◌, ◌^◌, IfOk, IsSome, OnOk, OnErr, is_some, slice_get};
 ghost use Rattle.split_device.specs.State.{split_lookup};
 ghost use Rattle.split_order.specs.Left.{state_on};
 ghost use Rattle.split_order.specs.Managed.{fresh_split};
 ghost use Rattle.split_order.specs.Prepared.{JudgesSplit};
 ghost use Rattle.rule_model.specs.RuleSet.{IsRuleSet};
+ghost use Rattle.rule_chains.specs.Chains.{IsLongestChain};
 ghost use Rattle.tcam_c.specs.Driven.{IsDue, KeepsLive};
 ghost use Rattle.tcam_c.specs.Tables.{slots_left};
 ghost use Rattle.tcam_c.specs.Split.{Cancels, IsServingSplit, IsSplitEnded, PassesDue, PlansParts, ServesOn, cancelled_by, kind_of_part, part_due};
@@ -15,8 +16,9 @@ use crate::part_steps::{go_on, prepare};
 use crate::steps::DueKind;
 use crate::stored::rule_at_place;
 use batch_order::{Mode, Placement, Refusal};
+use rule_chains::longest_chain;
 use rule_model::{Key, Rank, Rule};
-use rule_store::Batch;
+use rule_store::{Batch, Store};
 use slot_order::MOST_SLOTS;
 use split_device::{SplitAction, SplitDevice};
 use split_hardware::SplitShadowed;
@@ -147,6 +149,29 @@ impl SplitTable {
         ensures falling { IsRuleSet self.now.whole.rules }
     {
         rule_at_place(self.manager.rules(), place)
+    }
+
+    /// The length of the longest overlap chain of the set. It fails only for want of memory.
+    pub(crate) fn longest_chain(&self, alloc: Global) -> Result<u32, AllocError>
+        ensures { IfOk result (λ longest. IsLongestChain self.now.whole.rules longest) }
+    {
+        longest_chain(alloc, self.manager.rules())
+    }
+
+    /// The rules of the set; while a commit is under way, those of the old set.
+    pub(crate) fn rules(&self) -> &Store
+        ensures { result.now.rules ≡ self.now.whole.rules }
+    {
+        self.manager.rules()
+    }
+
+    /// Whether a commit is under way.
+    pub(crate) fn is_busy(&self) -> bool
+        ensures busy { result ≡ is_some self.now.whole.held }
+        ensures serves { IsServingSplit self.now }
+    {
+        self.manager.serving();
+        self.manager.left().is_some()
     }
 
     /// How many slots the entries of the set leave free.

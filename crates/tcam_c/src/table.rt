@@ -1,8 +1,10 @@
 //! What a session leads: a memory of whole entries, or one whose results stand beside its slots, with its manager.
 
-ghost use Rattle.std.specs.Prelude.{◌≡◌, ◌≤◌, ◌<◌, ◌+◌, ◌^◌, IfOk, IsSome, OnOk, option_map, slice_get};
+ghost use Rattle.std.specs.Prelude.{◌≡◌, ◌≤◌, ◌<◌, ◌+◌, ◌^◌, IfOk, IsSome, OnOk, is_some, option_map, slice_get};
 ghost use Rattle.rule_model.specs.RuleSet.{IsRuleSet};
+ghost use Rattle.rule_chains.specs.Chains.{IsLongestChain};
 ghost use Rattle.tcam_c.specs.Driven.{IsDue};
+ghost use Rattle.tcam_c.specs.InHand.{held_of_table};
 ghost use Rattle.tcam_c.specs.Ranges.{bits_of_table, both_fields};
 ghost use Rattle.tcam_c.specs.Tables.{AbortsTable, IsServingTable, PassesTable, PreparesTable, TellsTable, answer_of_table, slots_left_of_table, fresh_table, kind_of_table, rules_of_table};
 
@@ -14,7 +16,7 @@ use crate::whole::WholeTable;
 use batch_order::{AbortFault, Mode, Placement, Refusal};
 use range_bits::BitMap;
 use rule_model::{Key, Rank, Rule};
-use rule_store::Batch;
+use rule_store::{Batch, Store};
 use slot_order::MOST_SLOTS;
 use std::alloc::{AllocError, Global};
 
@@ -151,6 +153,27 @@ impl Table {
         }
     }
 
+    /// The rules of the set; while a commit is under way, those of the old set.
+    pub(crate) fn rules(&self) -> &Store
+        ensures { result.now.rules ≡ rules_of_table self.now }
+    {
+        match self {
+            Table::Whole(table) => table.rules(),
+            Table::Split(table) => table.rules(),
+        }
+    }
+
+    /// Whether a commit is under way.
+    pub(crate) fn is_busy(&self) -> bool
+        ensures busy { result ≡ is_some (held_of_table self.now) }
+        ensures serves { IsServingTable self.now }
+    {
+        match self {
+            Table::Whole(table) => table.is_busy(),
+            Table::Split(table) => table.is_busy(),
+        }
+    }
+
     /// The rule at a place of the set, from 0 by falling priority, or None where there is none.
     pub(crate) fn rule_at_place(&self, place: u32) -> Option<Rule>
         ensures rule { result ≡ slice_get (rules_of_table self.now) place }
@@ -160,6 +183,16 @@ impl Table {
         match self {
             Table::Whole(table) => table.rule_at_place(place),
             Table::Split(table) => table.rule_at_place(place),
+        }
+    }
+
+    /// The length of the longest overlap chain of the set. It fails only for want of memory.
+    pub(crate) fn longest_chain(&self, alloc: Global) -> Result<u32, AllocError>
+        ensures { IfOk result (λ longest. IsLongestChain (rules_of_table self.now) longest) }
+    {
+        match self {
+            Table::Whole(table) => table.longest_chain(alloc),
+            Table::Split(table) => table.longest_chain(alloc),
         }
     }
 

@@ -109,6 +109,13 @@ impl Told {
         }
     }
 
+    /// The rules that were told.
+    pub(crate) fn rules(&self) -> &Store
+        ensures { result.now.rules ≡ self.now.rules }
+    {
+        &self.rules
+    }
+
     /// A rule of the set.
     pub(crate) fn rule(&mut self, stored: &TcamStored) -> Result<(), u32>
         ensures { TakesRule stored.now self.old result self.new }

@@ -1,6 +1,6 @@
 //! A manager of a memory whose slots hold whole entries, and the shadow of the caller's memory.
 
-ghost use Rattle.std.specs.Prelude.{◌≡◌, ◌≤◌, ◌<◌, ◌+◌, ◌^◌, ◌↔◌, IsTrue, IfOk, IsOk, IsSome, OnOk, OnErr, Some, length, slice_get};
+ghost use Rattle.std.specs.Prelude.{◌≡◌, ◌≤◌, ◌<◌, ◌+◌, ◌^◌, ◌↔◌, IsTrue, IfOk, IsOk, IsSome, OnOk, OnErr, Some, is_some, length, slice_get};
 ghost use Rattle.tcam_device.specs.State.{lookup, replay};
 ghost use Rattle.tcam_device.specs.Flight.{writes_in};
 ghost use Rattle.commit_writes.specs.Bits as live_bits;
@@ -8,6 +8,7 @@ ghost use Rattle.batch_order.specs.Managed.{Judges, Serves};
 ghost use Rattle.batch_order.specs.CarriedOut.{GoesForward, writes_left};
 ghost use Rattle.batch_order.specs.Steps.{ServesNow};
 ghost use Rattle.rule_model.specs.RuleSet.{IsRuleSet};
+ghost use Rattle.rule_chains.specs.Chains.{IsLongestChain};
 ghost use Rattle.tcam_c.specs.Tables.{slots_left};
 ghost use Rattle.tcam_c.specs.Restart.{IsUnused};
 ghost use Rattle.tcam_c.specs.Driven.{ComesFrom, Prepares, PassesOn, IsDue, IsEnded, KeepsLive, AbortsHeld, IsHandled, IsServing, IsServingAhead, due_of, fresh_driven, journal_of, kind_of_due};
@@ -19,8 +20,9 @@ use crate::stored::rule_at_place;
 use batch_order::{AbortFault, Done, Manager, Mode, Placement, Refusal};
 use memory_tcam::Shadowed;
 use range_bits::BitMap;
+use rule_chains::longest_chain;
 use rule_model::{Key, Rank, Rule};
-use rule_store::Batch;
+use rule_store::{Batch, Store};
 use slot_order::MOST_SLOTS;
 use std::alloc::{AllocError, Global};
 use std::marker::Model;
@@ -148,6 +150,29 @@ impl WholeTable {
         ensures falling { IsRuleSet self.now.manager.rules }
     {
         rule_at_place(self.manager.rules(), place)
+    }
+
+    /// The length of the longest overlap chain of the set. It fails only for want of memory.
+    pub(crate) fn longest_chain(&self, alloc: Global) -> Result<u32, AllocError>
+        ensures { IfOk result (λ longest. IsLongestChain self.now.manager.rules longest) }
+    {
+        longest_chain(alloc, self.manager.rules())
+    }
+
+    /// The rules of the set; while a commit is under way, those of the old set.
+    pub(crate) fn rules(&self) -> &Store
+        ensures { result.now.rules ≡ self.now.manager.rules }
+    {
+        self.manager.rules()
+    }
+
+    /// Whether a commit is under way.
+    pub(crate) fn is_busy(&self) -> bool
+        ensures busy { result ≡ is_some self.now.manager.held }
+        ensures serves { IsServing self.now }
+    {
+        self.manager.serving();
+        self.manager.left().is_some()
     }
 
     /// Over memory that holds what the manager takes it to hold.
