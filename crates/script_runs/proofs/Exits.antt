@@ -161,14 +161,15 @@ module _ {A C P E W V : Type 0} (kind : RunKind A C P E W V) (joins : AreJoined 
             acts_are = sym (only-more s.acts line.number act);
           }
 
-      here : (later : List A) × (acts_of (script_of scripts bytes) ≡ acts_only s.acts ++ act ∷ later)
-      here = act-here scripts bytes old left (numbered line) new now act s.acts counted going.1 (hands going.0) is room
+      -- its act is the next one of the script
+      pub next-act : (later : List A) × (acts_of (script_of scripts bytes) ≡ acts_only s.acts ++ act ∷ later)
+      next-act = act-here scripts bytes old left (numbered line) new now act s.acts counted going.1 (hands going.0) is room
 
       -- it stops the run
       pub exit-stopped : (taken : List ℕ) (result : Status)
           → ((later : List A) → acts_of (script_of scripts bytes) ≡ acts_only s.acts ++ act ∷ later → MatchesOutcome kind (script_of scripts bytes) (script_so_far scripts taken) result events_new start after)
           → ((result ≡ Done) ⊎ (result ≡ Refused) → now ≡ []) → EndsRun kind bytes taken now result events_new start after
-      exit-stopped taken result is all = ends-by taken now result events_new after (is here.0 here.1) all
+      exit-stopped taken result is all = ends-by taken now result events_new after (is next-act.0 next-act.1) all
 
       pub wants-next : (effects : List E) → kind.TakesMemory last act effects → Does kind effects [] events events_new before after → WantsNext kind s.acts bytes last events events_new before after
-      wants-next effects needs does = record { act = act; later = here.0; acts_are = here.1; effects = effects; needs = needs; does = does }
+      wants-next effects needs does = record { act = act; later = next-act.0; acts_are = next-act.1; effects = effects; needs = needs; does = does }

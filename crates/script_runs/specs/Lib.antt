@@ -4,3 +4,4 @@ pub mod Runs
 pub mod Outcomes
 pub mod InTime
 pub mod Rounds
+pub mod Places

@@ -10,7 +10,8 @@
 //! # How it stands
 //! `specs/Script` has the acts of a script by a **kind of scripts** (`ScriptKind`: how a line is read, what is counted of the
 //! acts, when one has no room), and what the bytes so far are of it. `specs/Runs` has runs, `specs/Outcomes` how they end by
-//! their status, `specs/InTime` what was carried out before the last read. The lemmas speak of lines and acts.
+//! their status, `specs/InTime` what was carried out before the last read, `specs/Places` one word for what devices show on the
+//! way. The lemmas speak of lines and acts.
 //!
 //! # What isn't here
 //! What an act is and does, and the words of a command line: those are `replay`'s and `tcam_cli`'s. No code, but the

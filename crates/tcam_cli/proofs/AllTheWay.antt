@@ -18,7 +18,8 @@ use Rattle.replay.specs.declared.Act.{Act}
 use Rattle.replay.specs.declared.Act.TheVariants.{Command, Probe, Packet, Commit, Trial, Crash}
 use Rattle.replay.specs.Effects.{Setting, Effect, journal_of}
 use Rattle.replay.specs.Run.{Progress, start, Commits, Returns, Restarts, Refuses, Tries, Crashes, Judged, HasEffects, Run, Runs}
-use Rattle.tcam_cli.specs.AllTheWay.{Led, Stands, TakenBack, rules_in, set_at, sets_through, ShowsSetOrNext, IsFirstPast, AnswersAllTheWay, AreShownInTurn, EndsAtLast}
+use Rattle.script_runs.specs.Places.{IsFirstPast}
+use Rattle.tcam_cli.specs.AllTheWay.{Led, Stands, TakenBack, rules_in, set_at, sets_through, ShowsSetOrNext, AnswersAllTheWay, AreShownInTurn, EndsAtLast}
 use Rattle.replay.proofs.lines.Effects.{written-append}
 use Rattle.replay.proofs.crash.Crashed.{joined, written-restarts}
 use Rattle.replay.proofs.lines.Written.{written-return, written-segment}

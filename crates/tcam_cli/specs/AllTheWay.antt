@@ -1,6 +1,6 @@
 -- What packets see of a run, in the words of rule sets: the acts lead from set to set, and after each device write
 -- every packet key has the answer of one of these sets or of the next one.
-use Rattle.std.specs.Prelude.{◌≡◌, ℕ, suc, ◌+◌, ◌-◌, ◌<◌, ◌≤◌, ◌⊎◌, Bool, true, false, Option, Some, IfSome, option_map, List, [], ◌∷◌, ◌++◌, length, take, drop, slice_get}
+use Rattle.std.specs.Prelude.{◌≡◌, ℕ, suc, ◌+◌, ◌-◌, ◌≤◌, ◌⊎◌, Bool, true, false, Option, Some, IfSome, option_map, List, [], ◌∷◌, ◌++◌, length, take, drop, slice_get}
 use Rattle.std.specs.List.{AllByRecursion}
 use Rattle.rule_model.specs.declared.Rule.{Rule}
 use Rattle.rule_store.specs.declared.Command.{Command as Change}
@@ -18,6 +18,7 @@ use Rattle.script_runs.specs.declared.Status.{Status}
 use Rattle.script_runs.specs.declared.Status.TheVariants.{Done, Refused, Script as ScriptFault, ReadFault, WriteFault, DeviceFault, Memory, Usage}
 use Rattle.trace_verify.specs.Verify.{IsHitlessText}
 use Rattle.script_runs.specs.Script.{acts_of}
+use Rattle.script_runs.specs.Places.{IsFirstPast}
 use Rattle.tcam_cli.specs.Headline.{Job, NoJob, Tells, Reads, Makes, Verifies, is_back, script_so_far}
 use Rattle.tcam_cli.specs.MadeScript.{made_script}
 use Rattle.tcam_cli.specs.Readings.{reading_by}
@@ -71,10 +72,6 @@ abbrev pub ShowsSetOrNext : State → List Led → ℕ → Type 0
 ShowsSetOrNext state sets place =
     (old : List Rule) × (new : List Rule) × (set_at sets place ≡ Some old)
     × ((set_at sets (place + 1) ≡ Some new) ⊎ (new ≡ old)) × ShowsOldOrNew state old new
-
--- behind so many writes the place is past this one, and behind fewer it wasn't
-abbrev pub IsFirstPast : (ℕ → ℕ) → ℕ → ℕ → Type 0
-IsFirstPast place k n = (k < place n) × ((m : ℕ) → m < n → place m ≤ k)
 
 -- Before the first and after each of the writes every key has the answer of one of the sets or of the next one, and
 -- the places of these sets come in their order: none is gone back to. A key's answer may come again all the same, from
