@@ -601,10 +601,10 @@ static inline enum tcam_error tcam_free_slots(struct tcam_manager *manager, uint
 
 /* Tells the length of the longest overlap chain of the rules: of a longest list of them in which each has a higher
  * priority than the next, and some packet matches both; 0 where there are no rules. While a commit is under way they
- * are the rules before it. Behind a commit that only added it is the m of the bounds on insertions, of which
- * tcam_prepare tells the longest (docs/C.md, "How long an insertion may get"). It tests each pair of rules at most
- * once, 8 million pairs of 4,096, and takes four bytes a rule until it returns: TCAM_MEMORY comes only where they are
- * wanting, and then longest isn't written. */
+ * are the rules before it. Behind a commit that only added it is the m of the bounds on insertions (docs/C.md, "How
+ * long an insertion may get"); how many writes the longest of a commit takes tcam_prepare tells. It tests each pair of
+ * rules at most once, 8 million pairs of 4,096, and takes four bytes a rule until it returns: TCAM_MEMORY comes only
+ * where they are wanting, and then longest isn't written. */
 static inline enum tcam_error tcam_longest_chain(struct tcam_manager *manager, uint32_t *longest) {
     return manager && longest ? (enum tcam_error)tcam_c_longest_chain(manager, longest) : TCAM_NULL;
 }
