@@ -86,9 +86,8 @@
 //!   write fails, but no call follows. Where no trace is wanted and the script has no probe, a failed line leaves no
 //!   commit half made.
 //! - **An access list takes any rule that its types give** (`IsActOf`), but where the report is in JSON (below). A script
-//!   gives sequence numbers from 1 and the results 1 and 0 alone; no clause needs it, as the report names any priority by
-//!   `2^32` less its lower part, or 0 where that is more, and any result but 1 as `deny`. Rules of a script of routes must
-//!   be routes of its version of IP, on which their bounds rest.
+//!   gives sequence numbers from 1; no clause needs it, as the report names any priority by `2^32` less its lower part, or
+//!   0 where that is more. Rules of a script of routes must be routes of its version of IP, on which their bounds rest.
 //! - **A report in JSON has the effects of one in words, with other lines** (`specs/Reports`): a setting says which, and
 //!   a statement without JSON is the same as before there was any. Its probes are counted, so that a script has the same
 //!   fault in either report, and none of them is told of (`probes_told`), so no word of them is made. Its head is due with
