@@ -84,7 +84,7 @@ pub fn protocol_choice(word: &[u8]) -> Result<Option<u8>, WordFault>
 }
 
 /// A port, a number of 16 bits, or BadPorts.
-fn port_of(word: &[u8]) -> Result<u16, WordFault>
+pub fn port_of(word: &[u8]) -> Result<u16, WordFault>
     ensures { result ≡ port_of word.now }
 {
     number_of_16_bits(word).ok_or(WordFault::BadPorts)

@@ -47,12 +47,15 @@ mod numbers;
 mod printed;
 mod words;
 
-pub use addresses::{prefix_of, side_of};
+pub use addresses::{address_of, prefix_of, side_of};
 pub use commands::{CommonCommand, common_command};
-pub use kinds::{action_of, count_of, key_of, ports_of, protocol_choice, result_of, sequence_of};
+pub use kinds::{
+    action_of, count_of, frame_key, key_of, port_of, ports_of, protocol_choice, protocol_of,
+    result_of, sequence_of,
+};
 pub use laws::{printed_is_read_back, shortens_the_longest};
 pub use printed::Ipv6Text;
-pub use words::{Words, command_words};
+pub use words::{Words, command_words, cut_word, without_blanks};
 
 /// Why a line is no command.
 #[derive(Clone, Copy, Debug, PartialEq, Eq)]

@@ -90,7 +90,7 @@ pub fn command_words(line: &[u8]) -> Option<(&[u8], Words<'_>)>
 }
 
 /// A text without the blanks that it begins with.
-fn without_blanks(text: &[u8]) -> &[u8]
+pub fn without_blanks(text: &[u8]) -> &[u8]
     ensures words { words_of result.now ≡ words_of text.now }
     ensures solid { 0 < length result.now → is_blank (slice_index result.now 0) ≡ false }
     ensures len { length result.now ≤ length text.now }
@@ -108,7 +108,7 @@ fn leading_blanks(text: &[u8]) -> usize
 }
 
 /// The word that a text begins with, and what stands behind it.
-fn cut_word(text: &[u8]) -> (&[u8], &[u8])
+pub fn cut_word(text: &[u8]) -> (&[u8], &[u8])
     requires some { 0 < length text.now }
     requires solid { is_blank (slice_index text.now 0) ≡ false }
     ensures words { words_of text.now ≡ result.0.now ∷ words_of result.1.now }

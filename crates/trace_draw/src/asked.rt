@@ -6,7 +6,7 @@ use std::alloc::{AllocError, Global};
 
 /// What a picture is to show of a trace.
 #[derive(Clone, Copy, Debug, PartialEq, Eq)]
-pub(crate) enum Wanted {
+pub enum Wanted {
     /// The writes of the last commit that was carried out.
     Last,
     /// The writes of the commits from one number to another one.
@@ -17,14 +17,14 @@ pub(crate) enum Wanted {
 
 /// What a command line asks for.
 #[derive(Clone, Copy, Debug, PartialEq, Eq)]
-pub(crate) enum Asked {
+pub enum Asked {
     Picture(Wanted),
     Help,
 }
 
 /// Why words ask for nothing.
 #[derive(Clone, Copy, Debug, PartialEq, Eq)]
-pub(crate) enum WordsFault {
+pub enum WordsFault {
     /// They are no command line.
     Usage,
     /// Want of memory.
@@ -52,7 +52,7 @@ fn flag_arg<'a>(alloc: Global, name: &'a str) -> Arg<'a> {
 }
 
 /// What the words ask for: the program's name first, and `draw` behind it.
-pub(crate) fn read_words(alloc: Global, words: &[String]) -> Result<Asked, WordsFault> {
+pub fn read_words(alloc: Global, words: &[String]) -> Result<Asked, WordsFault> {
     let Some((_, own)) = words.split_first() else {
         return Err(WordsFault::Usage);
     };

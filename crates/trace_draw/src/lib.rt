@@ -41,4 +41,5 @@ mod table;
 mod texts;
 mod tracer;
 
+pub use asked::{Asked, Wanted, WordsFault, read_words};
 pub use drawing::draw;
