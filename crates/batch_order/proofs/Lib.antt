@@ -6,3 +6,5 @@ pub mod back
 pub mod served
 pub mod restarted
 pub mod Listed
+pub mod Made
+pub mod Leaving

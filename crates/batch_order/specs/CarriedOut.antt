@@ -7,6 +7,7 @@ use Rattle.tcam_device.specs.declared.Action.TheVariants.{Written, Drained}
 use Rattle.tcam_device.specs.State.{apply, replay, state_after}
 use Rattle.tcam_device.specs.Flight.{writes_in}
 use Rattle.tcam_device.specs.Hitless.{ShowsOldOrNew}
+use Rattle.tcam_device.specs.View.{DeviceView}
 use Rattle.tcam_device.specs.Insertion.{is_table_write}
 use Rattle.commit_writes.specs.declared.Done.{Done}
 use Rattle.commit_writes.specs.Bits.{FieldBits}
@@ -106,6 +107,14 @@ acted_by old action =
 -- and after some actions
 abbrev pub acted : Managed → List Action → Managed
 acted old actions = fold acted_by old actions
+
+-- What was made on the device and what is left of a commit are together what was left of it before. Each action took its
+-- memory, and only failures may have come besides.
+pub record HasCarried (old new : Option HeldCommit) (device_old device_new : DeviceView) : Type 0 where
+  pub events : device_new.events ++ actions_left new ≡ device_old.events ++ actions_left old
+  pub spare : device_new.spare + length (actions_left old) ≡ device_old.spare + length (actions_left new)
+  pub flight : device_new.flight ≡ device_old.flight
+  pub slots : device_new.slots ≡ device_old.slots
 
 -- Some first part of the actions of the commit under way was made, forward or back, and the rest is held, with so many
 -- writes in it.

@@ -13,3 +13,4 @@ pub mod Standing
 pub mod RestPlan
 pub mod Stopped
 pub mod ByParts
+pub mod Laws

@@ -68,15 +68,17 @@
 //!   body that gives up after as many failures of several writes meets the clauses; that each write has tries of its
 //!   own is only tested (`tried_each` and `tried_no_more` in `tests/stopped_commits`). With no commit under way nothing
 //!   happens and the numbers are 0, so it may be called at any time. Whoever knows what `prepare` ensured (`Holds`) has
-//!   the rules after the batch as a clause. The premise of room has a name, `HasRoomLeft`, and `prepare` keeps it.
+//!   the rules after the batch by a law (`carrying_takes_rules`). The premise of room has a name, `HasRoomLeft`, and
+//!   `prepare` keeps it.
 //! - **`carry_out` stops where it would wait** (`Unfinished::Waiting`), since to wait in a loop would hang a caller who
 //!   has to do the searches; the call goes on where it is made again. `Reverted` comes where the commit was turned
 //!   round, so an Ok says always that the rules are the new set. What was done to the device and what is left are
-//!   together what was due, drains among them (`events_left`): by the writes alone (`journal`) a drain too many or too
-//!   few at a stop stood in no clause but that of room.
-//! - **`prepare`, `step`, `carry_out` and `abort` leave the slots in use as they were, and say so** (`slots`): a caller
-//!   who keeps a manager together with its device needs it to call again, and else had to show it by a walk along the
-//!   actions that were made.
+//!   together what was due, drains among them (`carried`): by the writes alone (`journal`) a drain too many or too few at
+//!   a stop stood in no clause but that of room.
+//! - **`prepare`, `step` and `carry_out` leave what the next call asks for, and say so in one clause** (`leaves`): the
+//!   slots in use, the room one way and both ways, and that a commit goes forward. A caller's loop proves by it with
+//!   its invariant alone; as a law of the other clauses it made each loop of a library's user cite a lemma at each turn.
+//!   Of `abort` the law says it (`turns_leave`), and of a step over no device (`steps_leave`).
 //! - **A batch is planned over no device** (`plan_commit`), and `prepare` reserves the device for the plan. So whoever
 //!   makes the writes elsewhere, by parts or outside of this program, has the same planner, told by `pass` what was
 //!   made. Where the device has no memory the plan is dropped (`cancel`), as it may be until its first write, where
@@ -150,8 +152,9 @@ mod writes;
 
 pub use commit_writes::Done;
 pub use laws::{
-    goes_back_through_states, plans_of_rests_are_restarts, reverts_to_the_old_state,
-    steps_keep_the_way_back,
+    carrying_ends, carrying_takes_rules, goes_back_through_states, journals_grow,
+    plans_of_rests_are_restarts, reverts_to_the_old_state, steps_keep_the_way_back, steps_leave,
+    turns_leave, ways_back_go_back,
 };
 pub use manager::Manager;
 pub use readback::Rejection;

@@ -1,25 +1,26 @@
 //! The manager of one device.
 
-ghost use Rattle.std.specs.Prelude.{◌≡◌, ◌+◌, ◌-◌, ◌*◌, ◌^◌, ◌++◌, ◌∷◌, [], ◌≤◌, ◌<◌, ◌↔◌, ℕ, List, Option, Some, None, Err, IfSome, IsSome, IsTrue, IfOk, IfErr, IsErr, OnOk, OnErr, length, map, option_map, fold};
+ghost use Rattle.std.specs.Prelude.{◌≡◌, ◌+◌, ◌-◌, ◌*◌, ◌^◌, [], ◌≤◌, ◌<◌, ℕ, Option, Some, None, Err, IfSome, IsSome, IfOk, IfErr, OnOk, OnErr, length, map, option_map};
 ghost use Rattle.std.specs.List.{AllByRecursion};
 ghost use Rattle.call_history.specs.Cause.{HasCause};
 ghost use Rattle.tcam_device.specs.declared.Write.{Write};
-ghost use Rattle.tcam_device.specs.State.{IsInUse, Shows, State, apply, on_device, replay};
-ghost use Rattle.tcam_device.specs.Flight.{writes_in};
+ghost use Rattle.tcam_device.specs.State.{Shows, State, apply, on_device};
 ghost use Rattle.tcam_device.specs.Hitless.{ShowsOldOrNew};
+ghost use Rattle.tcam_device.specs.View.{HasMade, IsSameButSpare, IsUntouched, device_state, journal};
 ghost use Rattle.rule_store.specs.Verdict.{entries_of, slots_verdict, verdict, Accepted};
-ghost use Rattle.rule_store.specs.Batch.{ChangesRules, batch_fault, set_after};
+ghost use Rattle.rule_store.specs.Batch.{ChangesRules, batch_fault};
 ghost use Rattle.commit_writes.specs.Changes.{coded_by, during_of};
 ghost use Rattle.readback.specs.Judged.{judgement};
 ghost use Rattle.batch_order.specs.Managed.{Managed, Judges, Holds, IsOn, Serves, fresh, live_now, writes_due};
-ghost use Rattle.batch_order.specs.Steps.{Aborts, IsAllMade, KeepsCurrent, ServesNow, Steps, actions_of, awaits_drain, next_of};
+ghost use Rattle.batch_order.specs.Steps.{Aborts, KeepsCurrent, ServesNow, Steps, actions_of, next_of};
 ghost use Rattle.batch_order.specs.Turning.{IsHeldRight};
-ghost use Rattle.batch_order.specs.Passed.{GoesBackFrom, WayBackFrom};
+ghost use Rattle.batch_order.specs.Passed.{WayBackFrom};
 ghost use Rattle.commit_writes.specs.Bits.{bits_with};
 ghost use Rattle.commit_writes.specs.Serving.{HaveFreeBits};
 ghost use Rattle.batch_order.specs.Placing.{words_of};
 ghost use Rattle.batch_order.specs.Planning.{all_writes};
-ghost use Rattle.batch_order.specs.CarriedOut.{GoesForward, HasRoomBothWays, HasRoomLeft, IsServed, IsStuckBy, IsTried, StopsBy, actions_left, ahead, done_of, finished, writes_left};
+ghost use Rattle.batch_order.specs.Laws.{StepLeaves};
+ghost use Rattle.batch_order.specs.CarriedOut.{GoesForward, HasCarried, HasRoomBothWays, HasRoomLeft, IsServed, IsStuckBy, IsTried, StopsBy, ahead, done_of, finished};
 
 use crate::entries::LiveEntries;
 use crate::held::Held;
@@ -32,7 +33,7 @@ use crate::translation::{
 use crate::writes::plan_writes;
 use crate::{AbortFault, Done, Field, Placement, Refusal, Rejection, Step, Unfinished};
 use commit_writes::FieldBits;
-use rule_store::{Batch, Command, Mode, Store};
+use rule_store::{Batch, Mode, Store};
 use slot_order::MOST_SLOTS;
 use slot_pool::Arrangement;
 use std::alloc::{AllocError, Global};
@@ -157,25 +158,18 @@ impl Manager {
     /// Whatever it answers, each key is answered, by the device's journal, as before: as the rules of the set do, and with
     /// a commit under way already as its old ones or its new ones do.
     pub fn prepare<D: Writable>(&mut self, batch: &Batch, device: &mut D) -> Result<Done, Refusal>
-        requires slots { self.old.slots ≤ D.slot_count device.old }
+        requires slots { self.old.slots ≤ (D.view device.old).slots }
         ensures judged { Judges self.old self.old.held batch.now result }
         ensures ready { IfOk result (λ counts. Holds self.old batch.now counts self.new) }
         ensures refused { OnErr result (self.new ≡ self.old) }
-        ensures reserved { OnOk result (HasRoomBothWays self.new.held (D.spare device.new)) }
-        ensures enough { IfOk result (λ counts. counts.writes ≤ D.spare device.new) }
-        ensures room { HasRoomLeft self.old.held (D.spare device.old) → HasRoomLeft self.new.held (D.spare device.new) }
-        ensures both_ways { HasRoomBothWays self.old.held (D.spare device.old) → HasRoomBothWays self.new.held (D.spare device.new) }
-        ensures forward { GoesForward self.old.held → GoesForward self.new.held }
+        ensures reserved { OnOk result (HasRoomBothWays self.new.held (D.view device.new).spare) }
+        ensures enough { IfOk result (λ counts. counts.writes ≤ (D.view device.new).spare) }
         ensures way_back { OnOk result (WayBackFrom self.old.state self.new) }
-        ensures spare { D.spare device.old ≤ D.spare device.new }
-        ensures journal { D.journal device.new ≡ D.journal device.old }
-        ensures events { D.events device.new ≡ D.events device.old }
-        ensures flight { D.flight device.new ≡ D.flight device.old }
-        ensures slots { self.new.slots ≡ self.old.slots }
-        ensures slot_count { D.slot_count device.new ≡ D.slot_count device.old }
-        ensures faults { D.faults device.new ≡ D.faults device.old }
-        ensures stays_on { IsOn (D.slot_count device.old) (D.journal device.old) self.old → IsOn (D.slot_count device.new) (D.journal device.new) self.new }
-        ensures serves { IsOn (D.slot_count device.old) (D.journal device.old) self.old → Serves (replay (D.slot_count device.new) (D.journal device.new)) self.old.rules self.old.held }
+        ensures spare { (D.view device.old).spare ≤ (D.view device.new).spare }
+        ensures others { IsSameButSpare (D.view device.old) (D.view device.new) }
+        ensures leaves { StepLeaves self.old self.new (D.view device.old).spare (D.view device.new).spare }
+        ensures stays_on { IsOn (D.view device.old).slots (journal (D.view device.old)) self.old → IsOn (D.view device.new).slots (journal (D.view device.new)) self.new }
+        ensures serves { IsOn (D.view device.old).slots (journal (D.view device.old)) self.old → Serves (device_state (D.view device.new)) self.old.rules self.old.held }
     {
         self.serving();
         let counts = self.plan_commit(batch)?;
@@ -340,30 +334,20 @@ impl Manager {
     /// answered as the old rules or the new ones do then too, and made twice the write leaves what it leaves once
     /// (`tcam_device::twice_as_once`).
     pub fn step<D: Writable>(&mut self, device: &mut D) -> Result<Step, DeviceFault>
-        requires slots { self.old.slots ≤ D.slot_count device.old }
-        requires room { HasRoomLeft self.old.held (D.spare device.old) }
-        ensures stepped { IfOk result (λ step. Steps self.old (length (D.flight device.old)) self.old.held step self.new) }
+        requires slots { self.old.slots ≤ (D.view device.old).slots }
+        requires room { HasRoomLeft self.old.held (D.view device.old).spare }
+        ensures stepped { IfOk result (λ step. Steps self.old (length (D.view device.old).flight) self.old.held step self.new) }
         ensures keeps { IfOk result (λ step. KeepsCurrent self.old step self.new) }
         ensures way_back { (begun : State) → WayBackFrom begun self.old → WayBackFrom begun self.new }
-        ensures goes_back { (begun : State) → WayBackFrom begun self.old → GoesBackFrom begun self.new }
-        ensures journal { IfOk result (λ step. D.journal device.new ≡ D.journal device.old ++ writes_in (actions_of step)) }
-        ensures events { IfOk result (λ step. D.events device.new ≡ D.events device.old ++ actions_of step) }
-        ensures spare { IfOk result (λ step. D.spare device.new + length (actions_of step) ≡ D.spare device.old) }
-        ensures room { HasRoomLeft self.new.held (D.spare device.new) }
-        ensures both_ways { HasRoomBothWays self.old.held (D.spare device.old) → HasRoomBothWays self.new.held (D.spare device.new) }
-        ensures slots { self.new.slots ≡ self.old.slots }
-        ensures forward { GoesForward self.old.held → GoesForward self.new.held }
+        ensures made { IfOk result (λ step. HasMade (actions_of step) (D.view device.old) (D.view device.new)) }
         ensures failed { OnErr result (self.new ≡ self.old) }
-        ensures journal_err { OnErr result (D.journal device.new ≡ D.journal device.old) }
-        ensures events_err { OnErr result (D.events device.new ≡ D.events device.old) }
-        ensures spare_err { OnErr result (D.spare device.new ≡ D.spare device.old) }
-        ensures flight { D.flight device.new ≡ D.flight device.old }
-        ensures slot_count { D.slot_count device.new ≡ D.slot_count device.old }
+        ensures unmade { OnErr result (IsUntouched (D.view device.old) (D.view device.new)) }
         ensures due { OnErr result (IsSome (next_of self.old.held)) }
-        ensures cause { HasCause (D.faults device.old) (D.faults device.new) result }
-        ensures stays_on { IsOn (D.slot_count device.old) (D.journal device.old) self.old → IsOn (D.slot_count device.new) (D.journal device.new) self.new }
-        ensures serves { IsOn (D.slot_count device.old) (D.journal device.old) self.old → Serves (replay (D.slot_count device.new) (D.journal device.new)) self.new.rules self.new.held }
-        ensures serves_err { OnErr result (IsOn (D.slot_count device.old) (D.journal device.old) self.old → IfSome (next_of self.old.held) (λ write. Serves (apply (replay (D.slot_count device.new) (D.journal device.new)) write) self.new.rules self.new.held)) }
+        ensures cause { HasCause (D.view device.old).faults (D.view device.new).faults result }
+        ensures leaves { StepLeaves self.old self.new (D.view device.old).spare (D.view device.new).spare }
+        ensures stays_on { IsOn (D.view device.old).slots (journal (D.view device.old)) self.old → IsOn (D.view device.new).slots (journal (D.view device.new)) self.new }
+        ensures serves { IsOn (D.view device.old).slots (journal (D.view device.old)) self.old → Serves (device_state (D.view device.new)) self.new.rules self.new.held }
+        ensures serves_err { OnErr result (IsOn (D.view device.old).slots (journal (D.view device.old)) self.old → IfSome (next_of self.old.held) (λ write. Serves (apply (device_state (D.view device.new)) write) self.new.rules self.new.held)) }
     {
         self.serving();
         match self.next_write() {
@@ -400,11 +384,6 @@ impl Manager {
     pub fn abort(&mut self) -> Result<u64, AbortFault>
         ensures aborts { Aborts self.old self.old.held result self.new }
         ensures way_back { (begun : State) → WayBackFrom begun self.old → WayBackFrom begun self.new }
-        ensures goes_back { (begun : State) → WayBackFrom begun self.old → GoesBackFrom begun self.new }
-        ensures room { (spare : ℕ) → HasRoomBothWays self.old.held spare → HasRoomLeft self.new.held spare }
-        ensures both_ways { (spare : ℕ) → HasRoomBothWays self.old.held spare → HasRoomBothWays self.new.held spare }
-        ensures state { self.new.state ≡ self.old.state }
-        ensures slots { self.new.slots ≡ self.old.slots }
         ensures current { live_now self.new ≡ live_now self.old }
     {
         match &mut self.held {
@@ -435,31 +414,21 @@ impl Manager {
     /// after each, also where the write that failed was made all the same; and once the commit has finished as the new
     /// ones do.
     pub fn carry_out<D: Writable>(&mut self, device: &mut D, tries: u32) -> Result<Done, Unfinished>
-        requires slots { self.old.slots ≤ D.slot_count device.old }
-        requires room { HasRoomLeft self.old.held (D.spare device.old) }
+        requires slots { self.old.slots ≤ (D.view device.old).slots }
+        requires room { HasRoomLeft self.old.held (D.view device.old).spare }
         requires tries { 1 ≤ tries }
         ensures done { IfOk result (λ done. done ≡ done_of self.old.held) }
         ensures was_forward { OnOk result (GoesForward self.old.held) }
-        ensures forward { GoesForward self.old.held → GoesForward self.new.held }
         ensures finished { OnOk result (self.new ≡ finished self.old) }
-        ensures rules { OnOk result ((was : Managed) → (batch : List Command) → (counts : Done) → Holds was batch counts self.old → self.new.rules ≡ set_after was.rules batch) }
-        ensures journal { OnOk result (D.journal device.new ≡ D.journal device.old ++ writes_left self.old.held) }
-        ensures events { OnOk result (D.events device.new ≡ D.events device.old ++ actions_left self.old.held) }
-        ensures events_left { D.events device.new ++ actions_left self.new.held ≡ D.events device.old ++ actions_left self.old.held }
-        ensures stopped { IfErr result (λ halt. StopsBy self.old self.new (D.journal device.old) (D.journal device.new) (length (D.flight device.old)) halt) }
+        ensures carried { HasCarried self.old.held self.new.held (D.view device.old) (D.view device.new) }
+        ensures stopped { IfErr result (λ halt. StopsBy self.old self.new (journal (D.view device.old)) (journal (D.view device.new)) (length (D.view device.old).flight) halt) }
         ensures way_back { (begun : State) → WayBackFrom begun self.old → WayBackFrom begun self.new }
-        ensures goes_back { (begun : State) → WayBackFrom begun self.old → GoesBackFrom begun self.new }
-        ensures spare { D.spare device.new + length (actions_left self.old.held) ≡ D.spare device.old + length (actions_left self.new.held) }
-        ensures room { HasRoomLeft self.new.held (D.spare device.new) }
-        ensures both_ways { HasRoomBothWays self.old.held (D.spare device.old) → HasRoomBothWays self.new.held (D.spare device.new) }
-        ensures flight { D.flight device.new ≡ D.flight device.old }
-        ensures slots { self.new.slots ≡ self.old.slots }
-        ensures slot_count { D.slot_count device.new ≡ D.slot_count device.old }
-        ensures tried { IsTried tries (length (D.journal device.new) - length (D.journal device.old)) (IsStuckBy result) (D.faults device.old) (D.faults device.new) }
-        ensures stays_on { IsOn (D.slot_count device.old) (D.journal device.old) self.old → IsOn (D.slot_count device.new) (D.journal device.new) self.new }
-        ensures hitless { IsOn (D.slot_count device.old) (D.journal device.old) self.old → IsServed (D.slot_count device.new) (D.journal device.old) (D.journal device.new) self.old.rules (ahead self.old) }
-        ensures serves { IsOn (D.slot_count device.old) (D.journal device.old) self.old → Serves (replay (D.slot_count device.new) (D.journal device.new)) self.new.rules self.new.held }
-        ensures serves_err { OnErr result (IsOn (D.slot_count device.old) (D.journal device.old) self.old → IfSome (next_of self.new.held) (λ write. Serves (apply (replay (D.slot_count device.new) (D.journal device.new)) write) self.new.rules self.new.held)) }
+        ensures leaves { StepLeaves self.old self.new (D.view device.old).spare (D.view device.new).spare }
+        ensures tried { IsTried tries (length (journal (D.view device.new)) - length (journal (D.view device.old))) (IsStuckBy result) (D.view device.old).faults (D.view device.new).faults }
+        ensures stays_on { IsOn (D.view device.old).slots (journal (D.view device.old)) self.old → IsOn (D.view device.new).slots (journal (D.view device.new)) self.new }
+        ensures hitless { IsOn (D.view device.old).slots (journal (D.view device.old)) self.old → IsServed (D.view device.new).slots (journal (D.view device.old)) (journal (D.view device.new)) self.old.rules (ahead self.old) }
+        ensures serves { IsOn (D.view device.old).slots (journal (D.view device.old)) self.old → Serves (device_state (D.view device.new)) self.new.rules self.new.held }
+        ensures serves_err { OnErr result (IsOn (D.view device.old).slots (journal (D.view device.old)) self.old → IfSome (next_of self.new.held) (λ write. Serves (apply (device_state (D.view device.new)) write) self.new.rules self.new.held)) }
     {
         self.serving();
         let mut failures = 0;

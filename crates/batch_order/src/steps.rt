@@ -1,7 +1,7 @@
 //! What a step does of the commit under way: the next write, the drain, or the end, and all of it back once the commit
 //! is turned round.
 
-ghost use Rattle.std.specs.Prelude.{◌≡◌, ◌+◌, ◌++◌, [], ℕ, true, false, Some, None, IfSome, IsSome, IsTrue, length};
+ghost use Rattle.std.specs.Prelude.{◌≡◌, ◌+◌, [], ℕ, true, false, Some, None, IfSome, IsSome, IsTrue, length};
 ghost use Rattle.tcam_device.specs.State.{IsInUse};
 ghost use Rattle.tcam_device.specs.Flight.{writes_in};
 ghost use Rattle.batch_order.specs.Steps.{IsAllMade, IsPlainlyForward, Steps, actions_of, awaits_drain, cancelled, is_turned, is_unwritten, next_of};
@@ -9,6 +9,7 @@ ghost use Rattle.batch_order.specs.Managed.{live_now};
 ghost use Rattle.commit_writes.specs.InFlight.{ArePartOf};
 ghost use Rattle.commit_writes.specs.Undo.{restoring};
 ghost use Rattle.tcam_device.specs.declared.Write.{Write};
+ghost use Rattle.tcam_device.specs.View.{HasMade};
 ghost use Rattle.batch_order.specs.CarriedOut.{HasRoomLeft};
 
 use crate::Step;
@@ -130,16 +131,12 @@ impl Manager {
     /// Where no write is due: the drain where it is next, or the end, forward or back.
     pub(crate) fn end<D: Writable>(&mut self, device: &mut D) -> Step
         requires next { next_of self.old.held ≡ None }
-        requires room { HasRoomLeft self.old.held (D.spare device.old) }
-        ensures stepped { Steps self.old (length (D.flight device.old)) self.old.held result self.new }
+        requires room { HasRoomLeft self.old.held (D.view device.old).spare }
+        ensures stepped { Steps self.old (length (D.view device.old).flight) self.old.held result self.new }
         ensures state { self.new.state ≡ self.old.state }
         ensures wrote { writes_in (actions_of result) ≡ [] }
-        ensures journal { D.journal device.new ≡ D.journal device.old }
-        ensures events { D.events device.new ≡ D.events device.old ++ actions_of result }
-        ensures spare { D.spare device.new + length (actions_of result) ≡ D.spare device.old }
-        ensures flight { D.flight device.new ≡ D.flight device.old }
-        ensures slot_count { D.slot_count device.new ≡ D.slot_count device.old }
-        ensures faults { D.faults device.new ≡ D.faults device.old }
+        ensures made { HasMade (actions_of result) (D.view device.old) (D.view device.new) }
+        ensures faults { (D.view device.new).faults ≡ (D.view device.old).faults }
     {
         if !self.drains_next() {
             return self.finish();

@@ -4,6 +4,7 @@ use Rattle.std.proofs.lemmas.List.{length-take-le, append_assoc, append-nil, tak
 use Rattle.rule_model.specs.RuleSet.{Answer}
 use Rattle.tcam_device.specs.declared.Action.{Action}
 use Rattle.tcam_device.specs.Flight.{Flight}
+use Rattle.tcam_device.specs.View.{DeviceView}
 use Rattle.batch_order.specs.Managed.{Managed}
 use Rattle.lookup_turns.specs.declared.Turn.{Turn}
 use Rattle.lookup_turns.specs.Turns.{Outcome, TakesTurn, Drives, IsTurned, AreDriven, with_number}
@@ -46,19 +47,21 @@ few_more answers place (Some found) few =
     let size = length-append answers ((place, found) ∷ []) in omega arith
 
 -- with one turn more, the turns so far are made
-pub driven_more : (slots : ℕ) (before between after : List Action) (manager mid last : Managed) (flight flying left : Flight) (turns : List Turn) (place : ℕ) (turn : Turn)
-    (answers : List (ℕ × Answer)) (answered : Option Answer) → AreDriven slots before between manager flight (take place turns) answers mid flying
-    → IsTurned slots between after mid flying turn answered last left → place < length turns → turn ≡ get_or turns place turn
-    → AreDriven slots before after manager flight (take (place + 1) turns) (answers ++ with_number place answered) last left
-driven_more slots before between after manager mid last flight flying left turns place turn answers answered so_far one inside is =
-    let once : Outcome = record { answered = answered; actions = one.actions; manager = last; flight = left } in
-    let more = drives_more slots manager flight 0 (take place turns) answers so_far.actions mid flying turn once so_far.driven one.turned in
+pub driven_more : (begun between after : DeviceView) (manager mid last : Managed) (turns : List Turn) (place : ℕ) (turn : Turn)
+    (answers : List (ℕ × Answer)) (answered : Option Answer) → AreDriven begun between manager (take place turns) answers mid
+    → IsTurned between after mid turn answered last → place < length turns → turn ≡ get_or turns place turn
+    → AreDriven begun after manager (take (place + 1) turns) (answers ++ with_number place answered) last
+driven_more begun between after manager mid last turns place turn answers answered so_far one inside is =
+    let once : Outcome = record { answered = answered; actions = one.actions; manager = last; flight = after.flight } in
+    let turned : TakesTurn begun.slots mid between.flight turn once = subst (λ n. TakesTurn n mid between.flight turn once) so_far.slots one.turned in
+    let more = drives_more begun.slots manager begun.flight 0 (take place turns) answers so_far.actions mid between.flight turn once so_far.driven turned in
     let size : length (take place turns) ≡ place = length-take-le place turns (let b : place ≤ length turns = omega arith in b) in
     let at : 0 + length (take place turns) ≡ place = omega arith in
     let longer : take place turns ++ turn ∷ [] ≡ take (place + 1) turns = ap (λ t. take place turns ++ t ∷ []) is ∙ sym (take_more turns place turn inside) in
     record {
       actions = so_far.actions ++ one.actions;
-      driven = subst (λ ts. Drives slots manager flight 0 ts (answers ++ with_number place answered) (so_far.actions ++ one.actions) last left) longer
-          (subst (λ k. Drives slots manager flight 0 (take place turns ++ turn ∷ []) (answers ++ with_number k answered) (so_far.actions ++ one.actions) last left) at more);
-      events = one.events ∙ ap (λ (xs : List Action). xs ++ one.actions) so_far.events ∙ append_assoc before so_far.actions one.actions;
+      driven = subst (λ ts. Drives begun.slots manager begun.flight 0 ts (answers ++ with_number place answered) (so_far.actions ++ one.actions) last after.flight) longer
+          (subst (λ k. Drives begun.slots manager begun.flight 0 (take place turns ++ turn ∷ []) (answers ++ with_number k answered) (so_far.actions ++ one.actions) last after.flight) at more);
+      events = one.events ∙ ap (λ (xs : List Action). xs ++ one.actions) so_far.events ∙ append_assoc begun.events so_far.actions one.actions;
+      slots = one.slots ∙ so_far.slots;
     }

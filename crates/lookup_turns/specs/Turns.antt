@@ -5,6 +5,7 @@ use Rattle.rule_model.specs.RuleSet.{Answer, answer}
 use Rattle.tcam_device.specs.declared.Action.{Action}
 use Rattle.tcam_device.specs.State.{State, lookup, on_device}
 use Rattle.tcam_device.specs.Flight.{Flight, with_word, most_in_flight}
+use Rattle.tcam_device.specs.View.{DeviceView}
 use Rattle.batch_order.specs.declared.Step.{Step as Made}
 use Rattle.batch_order.specs.Managed.{Managed}
 use Rattle.batch_order.specs.Steps.{Steps, actions_of, next_of}
@@ -60,26 +61,25 @@ Drives slots manager flight number (turn ∷ turns) answers actions last left =
     × Drives slots once.manager once.flight (number + 1) turns rest more last left
     × (answers ≡ with_number number once.answered ++ rest) × (actions ≡ once.actions ++ more)
 
--- one turn over a device with these events before it and after it
-pub record IsTurned (slots : ℕ) (before after : List Action) (manager : Managed) (flight : Flight) (turn : Turn)
-    (answered : Option Answer) (last : Managed) (left : Flight) : Type 0 where
+-- one turn over a device, from one moment to another
+pub record IsTurned (old new : DeviceView) (manager : Managed) (turn : Turn) (answered : Option Answer) (last : Managed) : Type 0 where
   pub actions : List Action
-  pub turned : TakesTurn slots manager flight turn (record { answered = answered; actions = actions; manager = last; flight = left })
-  pub events : after ≡ before ++ actions
+  pub turned : TakesTurn old.slots manager old.flight turn (record { answered = answered; actions = actions; manager = last; flight = new.flight })
+  pub events : new.events ≡ old.events ++ actions
+  pub slots : new.slots ≡ old.slots
 
 -- all turns
-pub record AreDriven (slots : ℕ) (before after : List Action) (manager : Managed) (flight : Flight) (turns : List Turn)
-    (answers : List (ℕ × Answer)) (last : Managed) (left : Flight) : Type 0 where
+pub record AreDriven (old new : DeviceView) (manager : Managed) (turns : List Turn) (answers : List (ℕ × Answer)) (last : Managed) : Type 0 where
   pub actions : List Action
-  pub driven : Drives slots manager flight 0 turns answers actions last left
-  pub events : after ≡ before ++ actions
+  pub driven : Drives old.slots manager old.flight 0 turns answers actions last new.flight
+  pub events : new.events ≡ old.events ++ actions
+  pub slots : new.slots ≡ old.slots
 
 -- The turns before one of them were made, whatever their searches answered. That one is a step, with a write due.
-pub record StandsBefore (slots : ℕ) (before after : List Action) (manager : Managed) (flight : Flight) (turns : List Turn)
-    (last : Managed) (left : Flight) : Type 0 where
+pub record StandsBefore (old new : DeviceView) (manager : Managed) (turns : List Turn) (last : Managed) : Type 0 where
   pub place : ℕ
   pub inside : place < length turns
   pub answers : List (ℕ × Answer)
-  pub stands : AreDriven slots before after manager flight (take place turns) answers last left
+  pub stands : AreDriven old new manager (take place turns) answers last
   pub step : slice_get turns place ≡ Some Step
   pub due : IsSome (next_of last.held)

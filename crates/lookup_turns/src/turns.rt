@@ -1,12 +1,13 @@
 // The turns of a list, one after the other.
-ghost use Rattle.std.specs.Prelude.{◌≡◌, ◌+◌, ◌<◌, ◌≤◌, ◌^◌, ◌++◌, ℕ, List, Err, IfOk, IsSome, OnErr, length, vec_len, vec_capacity};
+ghost use Rattle.std.specs.Prelude.{◌≡◌, ◌+◌, ◌<◌, ◌≤◌, ◌^◌, ◌++◌, Err, IfOk, IsSome, OnErr, length, vec_len, vec_capacity};
 ghost use Rattle.call_history.specs.Cause.{HasCause, IsCounted};
 ghost use Rattle.rule_model.specs.Key.{IsKey};
-ghost use Rattle.tcam_device.specs.State.{State, replay};
+ghost use Rattle.tcam_device.specs.State.{State};
+ghost use Rattle.tcam_device.specs.View.{IsSameButFlight, IsUntouched, device_state, journal};
 ghost use Rattle.commit_writes.specs.InFlight.{AreCurrent};
 ghost use Rattle.batch_order.specs.Managed.{IsOn, live_now};
 ghost use Rattle.batch_order.specs.Steps.{next_of};
-ghost use Rattle.batch_order.specs.Passed.{GoesBackFrom, WayBackFrom};
+ghost use Rattle.batch_order.specs.Passed.{WayBackFrom};
 ghost use Rattle.batch_order.specs.CarriedOut.{HasRoomBothWays, HasRoomLeft};
 ghost use Rattle.lookup_turns.specs.Turns.{IsTurned, AreDriven, StandsBefore, with_number, translated};
 
@@ -22,25 +23,22 @@ fn turn_once<D: Device>(
     turn: &Turn,
     device: &mut D,
 ) -> Result<Option<Option<(Rank, u32)>>, DeviceFault>
-    requires slots { manager.old.slots ≤ D.slot_count device.old }
-    requires room { HasRoomLeft manager.old.held (D.spare device.old) }
-    requires on { IsOn (D.slot_count device.old) (D.journal device.old) manager.old }
-    requires current { AreCurrent (live_now manager.old) (D.flight device.old) }
-    ensures turned { IfOk result (λ answered. IsTurned (D.slot_count device.old) (D.events device.old) (D.events device.new)
-        manager.old (D.flight device.old) turn.now answered manager.new (D.flight device.new)) }
-    ensures slots { manager.new.slots ≤ D.slot_count device.new }
-    ensures room { HasRoomLeft manager.new.held (D.spare device.new) }
-    ensures both_ways { HasRoomBothWays manager.old.held (D.spare device.old) → HasRoomBothWays manager.new.held (D.spare device.new) }
+    requires slots { manager.old.slots ≤ (D.view device.old).slots }
+    requires room { HasRoomLeft manager.old.held (D.view device.old).spare }
+    requires on { IsOn (D.view device.old).slots (journal (D.view device.old)) manager.old }
+    requires current { AreCurrent (live_now manager.old) (D.view device.old).flight }
+    ensures turned { IfOk result (λ answered. IsTurned (D.view device.old) (D.view device.new) manager.old turn.now answered manager.new) }
+    ensures slots { manager.new.slots ≤ (D.view device.new).slots }
+    ensures room { HasRoomLeft manager.new.held (D.view device.new).spare }
+    ensures both_ways { HasRoomBothWays manager.old.held (D.view device.old).spare → HasRoomBothWays manager.new.held (D.view device.new).spare }
     ensures way_back { (begun : State) → WayBackFrom begun manager.old → WayBackFrom begun manager.new }
-    ensures on { IsOn (D.slot_count device.new) (D.journal device.new) manager.new }
-    ensures current { AreCurrent (live_now manager.new) (D.flight device.new) }
+    ensures on { IsOn (D.view device.new).slots (journal (D.view device.new)) manager.new }
+    ensures current { AreCurrent (live_now manager.new) (D.view device.new).flight }
     ensures failed { OnErr result (manager.new ≡ manager.old) }
     ensures step { OnErr result (turn.now ≡ Turn.Step) }
     ensures due { OnErr result (IsSome (next_of manager.old.held)) }
-    ensures events_err { OnErr result (D.events device.new ≡ D.events device.old) }
-    ensures flight_err { OnErr result (D.flight device.new ≡ D.flight device.old) }
-    ensures slot_count { D.slot_count device.new ≡ D.slot_count device.old }
-    ensures cause { HasCause (D.faults device.old) (D.faults device.new) result }
+    ensures unmade { OnErr result (IsUntouched (D.view device.old) (D.view device.new)) }
+    ensures cause { HasCause (D.view device.old).faults (D.view device.new).faults result }
 {
     manager.serving();
     match turn {
@@ -59,13 +57,8 @@ fn turn_once<D: Device>(
 /// Puts a key's word into flight, where there is room.
 fn translate<D: Device>(key: &Key, device: &mut D)
     ensures valid { IsKey key.now }
-    ensures flight { D.flight device.new
-        ≡ translated (replay (D.slot_count device.old) (D.journal device.old)) key.now (D.flight device.old) }
-    ensures journal { D.journal device.new ≡ D.journal device.old }
-    ensures events { D.events device.new ≡ D.events device.old }
-    ensures spare { D.spare device.new ≡ D.spare device.old }
-    ensures slot_count { D.slot_count device.new ≡ D.slot_count device.old }
-    ensures faults { D.faults device.new ≡ D.faults device.old }
+    ensures flight { (D.view device.new).flight ≡ translated (device_state (D.view device.old)) key.now (D.view device.old).flight }
+    ensures others { IsSameButFlight (D.view device.old) (D.view device.new) }
 {
     key_fields(key);
     if device.in_flight() < MOST_IN_FLIGHT {
@@ -113,24 +106,20 @@ pub fn drive<D: Device>(
     device: &mut D,
 ) -> Result<Vec<(u32, Option<(Rank, u32)>)>, DriveFault>
     requires few { length turns.now < 2 ^ 32 }
-    requires slots { manager.old.slots ≤ D.slot_count device.old }
-    requires room { HasRoomLeft manager.old.held (D.spare device.old) }
-    requires on { IsOn (D.slot_count device.old) (D.journal device.old) manager.old }
-    requires current { AreCurrent (live_now manager.old) (D.flight device.old) }
-    ensures driven { IfOk result (λ answers. AreDriven (D.slot_count device.old) (D.events device.old) (D.events device.new)
-        manager.old (D.flight device.old) turns.now answers.items manager.new (D.flight device.new)) }
-    ensures stands { (result ≡ Err DriveFault.Device) → StandsBefore (D.slot_count device.old) (D.events device.old)
-        (D.events device.new) manager.old (D.flight device.old) turns.now manager.new (D.flight device.new) }
-    ensures cause { IsCounted (result ≡ Err DriveFault.Device) (D.faults device.old) (D.faults device.new) }
+    requires slots { manager.old.slots ≤ (D.view device.old).slots }
+    requires room { HasRoomLeft manager.old.held (D.view device.old).spare }
+    requires on { IsOn (D.view device.old).slots (journal (D.view device.old)) manager.old }
+    requires current { AreCurrent (live_now manager.old) (D.view device.old).flight }
+    ensures driven { IfOk result (λ answers. AreDriven (D.view device.old) (D.view device.new) manager.old turns.now answers.items manager.new) }
+    ensures stands { (result ≡ Err DriveFault.Device) → StandsBefore (D.view device.old) (D.view device.new) manager.old turns.now manager.new }
+    ensures cause { IsCounted (result ≡ Err DriveFault.Device) (D.view device.old).faults (D.view device.new).faults }
     ensures memory { (result ≡ Err DriveFault.Memory) → (manager.new ≡ manager.old) × (device.new ≡ device.old) }
-    ensures slots { manager.new.slots ≤ D.slot_count device.new }
-    ensures room { HasRoomLeft manager.new.held (D.spare device.new) }
-    ensures both_ways { HasRoomBothWays manager.old.held (D.spare device.old) → HasRoomBothWays manager.new.held (D.spare device.new) }
+    ensures slots { manager.new.slots ≤ (D.view device.new).slots }
+    ensures room { HasRoomLeft manager.new.held (D.view device.new).spare }
+    ensures both_ways { HasRoomBothWays manager.old.held (D.view device.old).spare → HasRoomBothWays manager.new.held (D.view device.new).spare }
     ensures way_back { (begun : State) → WayBackFrom begun manager.old → WayBackFrom begun manager.new }
-    ensures goes_back { (begun : State) → WayBackFrom begun manager.old → GoesBackFrom begun manager.new }
-    ensures on { IsOn (D.slot_count device.new) (D.journal device.new) manager.new }
-    ensures current { AreCurrent (live_now manager.new) (D.flight device.new) }
-    ensures slot_count { D.slot_count device.new ≡ D.slot_count device.old }
+    ensures on { IsOn (D.view device.new).slots (journal (D.view device.new)) manager.new }
+    ensures current { AreCurrent (live_now manager.new) (D.view device.new).flight }
 {
     let mut answers = Vec::new(alloc);
     match answers.reserve(turns.len()) {

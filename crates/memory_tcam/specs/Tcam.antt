@@ -8,6 +8,7 @@ use Rattle.tcam_device.specs.State.{State, replay}
 use Rattle.tcam_device.specs.declared.Action.{Action}
 use Rattle.tcam_device.specs.declared.Action.TheVariants.{Written, Drained}
 use Rattle.tcam_device.specs.Flight.{Flight, writes_in}
+use Rattle.tcam_device.specs.View.{DeviceView}
 
 -- A device in memory: the number of its slots, its writes since blank with the drains among them, the words in flight,
 -- and how many writes and drains have their room.
@@ -16,6 +17,10 @@ pub record Tcam : Type 0 where
   pub events : List Action
   pub flight : Flight
   pub spare : ℕ
+
+-- a device in memory as a device, with its count of failures
+abbrev pub as_device : Tcam → ℕ → DeviceView
+as_device device faults = record { slots = device.slots; events = device.events; flight = device.flight; spare = device.spare; faults = faults }
 
 -- Hardware with its shadow in memory: the hardware as it was given, alone in a list, and as it is now; its slots, the
 -- writes since then that were answered Ok with the drains among them, the words in flight, how many writes and drains
@@ -28,6 +33,10 @@ pub record Shadow (H : Type 0) : Type 0 where
   pub flight : Flight
   pub spare : ℕ
   pub faults : ℕ
+
+-- hardware with its shadow as a device
+abbrev pub shadow_as_device : {H : Type 0} → Shadow H → DeviceView
+shadow_as_device shadow = record { slots = shadow.slots; events = shadow.events; flight = shadow.flight; spare = shadow.spare; faults = shadow.faults }
 
 -- A call of hardware: what it was before, and what was asked for, a write with its answer or a drain.
 pub data Call (H : Type 0) : Type 0 where

@@ -67,26 +67,15 @@ impl<'a> FlakyTcam<'a> {
 
 /// The clauses are the trait's, and which write calls fail.
 impl<'a> Writable for FlakyTcam<'a> {
-    ghost use Rattle.std.specs.Prelude.{◌≡◌, ◌<◌, ◌≤◌, ◌+◌, ◌++◌, ◌∷◌, [], ◌↔◌, refl, IsErr, OnOk, OnErr};
+    ghost use Rattle.std.specs.Prelude.{◌≡◌, ◌<◌, ◌≤◌, ◌∷◌, [], ◌↔◌, IsErr, OnOk, OnErr};
     ghost use Rattle.call_history.specs.Cause.{HasCause, raised};
     ghost use Rattle.call_history.specs.Calls.{IsNextListed, with_call};
     ghost use Rattle.tcam_device.specs.declared.Action.{Action};
     ghost use Rattle.tcam_device.specs.State.{IsInUse};
-    ghost use Rattle.tcam_device.specs.Flight.{writes_in};
+    ghost use Rattle.tcam_device.specs.View.{HasMade, IsUntouched, IsSameButSpare};
+    ghost use Rattle.memory_tcam.specs.Tcam.{as_device};
 
-    ghost slot_count = { λ f. f.device.slots };
-
-    ghost journal = { λ f. writes_in f.device.events };
-
-    ghost events = { λ f. f.device.events };
-
-    ghost flight = { λ f. f.device.flight };
-
-    ghost spare = { λ f. f.device.spare };
-
-    ghost faults = { λ f. f.faults };
-
-    ghost agrees = { λ f. refl };
+    ghost view = { λ f. as_device f.device f.faults };
 
     fn slots(&self) -> u32 {
         self.device.slots()
@@ -96,12 +85,8 @@ impl<'a> Writable for FlakyTcam<'a> {
         ensures enough { OnOk result (n ≤ self.new.device.spare) }
         ensures least { self.old.device.spare ≤ self.new.device.spare }
         ensures spare_err { OnErr result (self.new.device.spare ≡ self.old.device.spare) }
-        ensures journal { writes_in self.new.device.events ≡ writes_in self.old.device.events }
-        ensures events { self.new.device.events ≡ self.old.device.events }
-        ensures flight { self.new.device.flight ≡ self.old.device.flight }
-        ensures slots { self.new.device.slots ≡ self.old.device.slots }
+        ensures others { IsSameButSpare (as_device self.old.device self.old.faults) (as_device self.new.device self.new.faults) }
         ensures calls { self.new.calls ≡ self.old.calls }
-        ensures faults { self.new.faults ≡ self.old.faults }
     {
         self.device.reserve(n)
     }
@@ -113,14 +98,8 @@ impl<'a> Writable for FlakyTcam<'a> {
         ensures calls { self.new.calls ≡ with_call self.old.calls }
         ensures raised { OnErr result (self.new.faults ≡ raised self.old.faults) }
         ensures faults_ok { OnOk result (self.new.faults ≡ self.old.faults) }
-        ensures written { OnOk result (writes_in self.new.device.events ≡ writes_in self.old.device.events ++ write ∷ []) }
-        ensures logged { OnOk result (self.new.device.events ≡ self.old.device.events ++ Action.Written write ∷ []) }
-        ensures spare { OnOk result (self.new.device.spare + 1 ≡ self.old.device.spare) }
-        ensures journal_err { OnErr result (writes_in self.new.device.events ≡ writes_in self.old.device.events) }
-        ensures events_err { OnErr result (self.new.device.events ≡ self.old.device.events) }
-        ensures spare_err { OnErr result (self.new.device.spare ≡ self.old.device.spare) }
-        ensures flight { self.new.device.flight ≡ self.old.device.flight }
-        ensures slots { self.new.device.slots ≡ self.old.device.slots }
+        ensures made { OnOk result (HasMade (Action.Written write ∷ []) (as_device self.old.device self.old.faults) (as_device self.new.device self.new.faults)) }
+        ensures unmade { OnErr result (IsUntouched (as_device self.old.device self.old.faults) (as_device self.new.device self.new.faults)) }
         ensures cause { HasCause self.old.faults self.new.faults result }
     {
         if self.calls.next_fails() {
@@ -137,11 +116,7 @@ impl<'a> Writable for FlakyTcam<'a> {
     fn drain(&mut self)
         requires empty { self.old.device.flight ≡ [] }
         requires room { 0 < self.old.device.spare }
-        ensures logged { self.new.device.events ≡ self.old.device.events ++ Action.Drained ∷ [] }
-        ensures spare { self.new.device.spare + 1 ≡ self.old.device.spare }
-        ensures journal { writes_in self.new.device.events ≡ writes_in self.old.device.events }
-        ensures flight { self.new.device.flight ≡ self.old.device.flight }
-        ensures slots { self.new.device.slots ≡ self.old.device.slots }
+        ensures made { HasMade (Action.Drained ∷ []) (as_device self.old.device self.old.faults) (as_device self.new.device self.new.faults) }
         ensures calls { self.new.calls ≡ self.old.calls }
         ensures faults { self.new.faults ≡ self.old.faults }
     {
@@ -153,6 +128,8 @@ impl<'a> Writable for FlakyTcam<'a> {
 impl<'a> Device for FlakyTcam<'a> {
     ghost use Rattle.std.specs.Prelude.{◌≡◌, ◌<◌, length, drop};
     ghost use Rattle.tcam_device.specs.Flight.{most_in_flight, with_word, search_answer};
+    ghost use Rattle.tcam_device.specs.View.{IsSameButFlight};
+    ghost use Rattle.memory_tcam.specs.Tcam.{as_device};
 
     fn look(&self, key: &Key) -> Option<(Rank, u32)> {
         self.device.look(key)
@@ -162,12 +139,8 @@ impl<'a> Device for FlakyTcam<'a> {
         requires room { length self.old.device.flight < most_in_flight }
         ensures flight { self.new.device.flight
             ≡ with_word (replay self.old.device.slots (writes_in self.old.device.events)) key.now self.old.device.flight }
-        ensures journal { writes_in self.new.device.events ≡ writes_in self.old.device.events }
-        ensures events { self.new.device.events ≡ self.old.device.events }
-        ensures spare { self.new.device.spare ≡ self.old.device.spare }
-        ensures slots { self.new.device.slots ≡ self.old.device.slots }
+        ensures others { IsSameButFlight (as_device self.old.device self.old.faults) (as_device self.new.device self.new.faults) }
         ensures calls { self.new.calls ≡ self.old.calls }
-        ensures faults { self.new.faults ≡ self.old.faults }
     {
         self.device.translate(key);
     }
@@ -175,12 +148,8 @@ impl<'a> Device for FlakyTcam<'a> {
     fn search(&mut self) -> Option<Option<(Rank, u32)>>
         ensures answer { result ≡ search_answer (replay self.old.device.slots (writes_in self.old.device.events)) self.old.device.flight }
         ensures flight { self.new.device.flight ≡ drop 1 self.old.device.flight }
-        ensures journal { writes_in self.new.device.events ≡ writes_in self.old.device.events }
-        ensures events { self.new.device.events ≡ self.old.device.events }
-        ensures spare { self.new.device.spare ≡ self.old.device.spare }
-        ensures slots { self.new.device.slots ≡ self.old.device.slots }
+        ensures others { IsSameButFlight (as_device self.old.device self.old.faults) (as_device self.new.device self.new.faults) }
         ensures calls { self.new.calls ≡ self.old.calls }
-        ensures faults { self.new.faults ≡ self.old.faults }
     {
         self.device.search()
     }

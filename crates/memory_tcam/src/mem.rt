@@ -66,22 +66,9 @@ impl MemTcam {
 }
 
 impl Writable for MemTcam {
-    ghost use Rattle.std.specs.Prelude.{refl};
-    ghost use Rattle.tcam_device.specs.Flight.{writes_in};
+    ghost use Rattle.memory_tcam.specs.Tcam.{as_device};
 
-    ghost slot_count = { λ m. m.slots };
-
-    ghost journal = { λ m. writes_in m.events };
-
-    ghost events = { λ m. m.events };
-
-    ghost flight = { λ m. m.flight };
-
-    ghost spare = { λ m. m.spare };
-
-    ghost faults = { λ m. 0 };
-
-    ghost agrees = { λ m. refl };
+    ghost view = { λ m. as_device m 0 };
 
     fn slots(&self) -> u32 {
         self.lookups.count()

@@ -42,22 +42,12 @@ impl ScarceTcam {
 
 /// The clauses are the trait's, and when there is no room.
 impl Writable for ScarceTcam {
-    ghost use Rattle.std.specs.Prelude.{◌≡◌, ◌≤◌, refl, length, IsErr, OnOk, OnErr};
+    ghost use Rattle.std.specs.Prelude.{◌≡◌, ◌≤◌, length, IsErr, OnOk, OnErr};
     ghost use Rattle.tcam_device.specs.Flight.{writes_in};
+    ghost use Rattle.tcam_device.specs.View.{IsSameButSpare};
+    ghost use Rattle.memory_tcam.specs.Tcam.{as_device};
 
-    ghost slot_count = { λ s. s.device.slots };
-
-    ghost journal = { λ s. writes_in s.device.events };
-
-    ghost events = { λ s. s.device.events };
-
-    ghost flight = { λ s. s.device.flight };
-
-    ghost spare = { λ s. s.device.spare };
-
-    ghost faults = { λ s. 0 };
-
-    ghost agrees = { λ s. refl };
+    ghost view = { λ s. as_device s.device 0 };
 
     fn slots(&self) -> u32 {
         self.device.slots()
@@ -68,10 +58,7 @@ impl Writable for ScarceTcam {
         ensures enough { OnOk result (n ≤ self.new.device.spare) }
         ensures least { self.old.device.spare ≤ self.new.device.spare }
         ensures spare_err { OnErr result (self.new.device.spare ≡ self.old.device.spare) }
-        ensures journal { writes_in self.new.device.events ≡ writes_in self.old.device.events }
-        ensures events { self.new.device.events ≡ self.old.device.events }
-        ensures flight { self.new.device.flight ≡ self.old.device.flight }
-        ensures slots { self.new.device.slots ≡ self.old.device.slots }
+        ensures others { IsSameButSpare (as_device self.old.device 0) (as_device self.new.device 0) }
         ensures most { self.new.most ≡ self.old.most }
     {
         if self.device.journal().len() >= self.most {

@@ -75,25 +75,14 @@ impl<H: Hardware> Shadowed<H> {
 
 /// The clauses are the trait's, and that `given` stays as it was.
 impl<H: Hardware> Writable for Shadowed<H> {
-    ghost use Rattle.std.specs.Prelude.{◌≡◌, ◌<◌, ◌≤◌, ◌+◌, ◌++◌, ◌∷◌, [], refl, OnOk, OnErr};
+    ghost use Rattle.std.specs.Prelude.{◌≡◌, ◌<◌, ◌≤◌, ◌∷◌, [], OnOk, OnErr};
     ghost use Rattle.call_history.specs.Cause.{HasCause};
     ghost use Rattle.tcam_device.specs.declared.Action.{Action};
     ghost use Rattle.tcam_device.specs.State.{IsInUse};
-    ghost use Rattle.tcam_device.specs.Flight.{writes_in};
+    ghost use Rattle.tcam_device.specs.View.{HasMade, IsUntouched, IsSameButSpare};
+    ghost use Rattle.memory_tcam.specs.Tcam.{shadow_as_device};
 
-    ghost slot_count = { λ m. m.slots };
-
-    ghost journal = { λ m. writes_in m.events };
-
-    ghost events = { λ m. m.events };
-
-    ghost flight = { λ m. m.flight };
-
-    ghost spare = { λ m. m.spare };
-
-    ghost faults = { λ m. m.faults };
-
-    ghost agrees = { λ m. refl };
+    ghost view = { λ m. shadow_as_device m };
 
     fn slots(&self) -> u32 {
         self.lookups.count()
@@ -103,11 +92,7 @@ impl<H: Hardware> Writable for Shadowed<H> {
         ensures enough { OnOk result (n ≤ self.new.spare) }
         ensures least { self.old.spare ≤ self.new.spare }
         ensures spare_err { OnErr result (self.new.spare ≡ self.old.spare) }
-        ensures journal { writes_in self.new.events ≡ writes_in self.old.events }
-        ensures events { self.new.events ≡ self.old.events }
-        ensures flight { self.new.flight ≡ self.old.flight }
-        ensures slots { self.new.slots ≡ self.old.slots }
-        ensures faults { self.new.faults ≡ self.old.faults }
+        ensures others { IsSameButSpare (shadow_as_device self.old) (shadow_as_device self.new) }
         ensures given { self.new.given ≡ self.old.given }
     {
         self.lookups.reserve(n)?;
@@ -118,14 +103,8 @@ impl<H: Hardware> Writable for Shadowed<H> {
     fn write(&mut self, write: Write) -> Result<(), DeviceFault>
         requires room { 0 < self.old.spare }
         requires place { IsInUse self.old.slots write }
-        ensures written { OnOk result (writes_in self.new.events ≡ writes_in self.old.events ++ write ∷ []) }
-        ensures logged { OnOk result (self.new.events ≡ self.old.events ++ Action.Written write ∷ []) }
-        ensures spare { OnOk result (self.new.spare + 1 ≡ self.old.spare) }
-        ensures journal_err { OnErr result (writes_in self.new.events ≡ writes_in self.old.events) }
-        ensures events_err { OnErr result (self.new.events ≡ self.old.events) }
-        ensures spare_err { OnErr result (self.new.spare ≡ self.old.spare) }
-        ensures flight { self.new.flight ≡ self.old.flight }
-        ensures slots { self.new.slots ≡ self.old.slots }
+        ensures made { OnOk result (HasMade (Action.Written write ∷ []) (shadow_as_device self.old) (shadow_as_device self.new)) }
+        ensures unmade { OnErr result (IsUntouched (shadow_as_device self.old) (shadow_as_device self.new)) }
         ensures cause { HasCause self.old.faults self.new.faults result }
         ensures given { self.new.given ≡ self.old.given }
     {
@@ -146,11 +125,7 @@ impl<H: Hardware> Writable for Shadowed<H> {
     fn drain(&mut self)
         requires empty { self.old.flight ≡ [] }
         requires room { 0 < self.old.spare }
-        ensures logged { self.new.events ≡ self.old.events ++ Action.Drained ∷ [] }
-        ensures spare { self.new.spare + 1 ≡ self.old.spare }
-        ensures journal { writes_in self.new.events ≡ writes_in self.old.events }
-        ensures flight { self.new.flight ≡ self.old.flight }
-        ensures slots { self.new.slots ≡ self.old.slots }
+        ensures made { HasMade (Action.Drained ∷ []) (shadow_as_device self.old) (shadow_as_device self.new) }
         ensures faults { self.new.faults ≡ self.old.faults }
         ensures given { self.new.given ≡ self.old.given }
     {
@@ -164,6 +139,8 @@ impl<H: Hardware> Writable for Shadowed<H> {
 impl<H: Hardware> Device for Shadowed<H> {
     ghost use Rattle.std.specs.Prelude.{◌≡◌, ◌<◌, length, drop};
     ghost use Rattle.tcam_device.specs.Flight.{most_in_flight, with_word, search_answer};
+    ghost use Rattle.tcam_device.specs.View.{IsSameButFlight};
+    ghost use Rattle.memory_tcam.specs.Tcam.{shadow_as_device};
 
     fn look(&self, key: &Key) -> Option<(Rank, u32)> {
         self.lookups.look(key)
@@ -172,11 +149,7 @@ impl<H: Hardware> Device for Shadowed<H> {
     fn translate(&mut self, key: &Key)
         requires room { length self.old.flight < most_in_flight }
         ensures flight { self.new.flight ≡ with_word (replay self.old.slots (writes_in self.old.events)) key.now self.old.flight }
-        ensures journal { writes_in self.new.events ≡ writes_in self.old.events }
-        ensures events { self.new.events ≡ self.old.events }
-        ensures spare { self.new.spare ≡ self.old.spare }
-        ensures slots { self.new.slots ≡ self.old.slots }
-        ensures faults { self.new.faults ≡ self.old.faults }
+        ensures others { IsSameButFlight (shadow_as_device self.old) (shadow_as_device self.new) }
         ensures given { self.new.given ≡ self.old.given }
     {
         self.lookups.translate(key);
@@ -185,11 +158,7 @@ impl<H: Hardware> Device for Shadowed<H> {
     fn search(&mut self) -> Option<Option<(Rank, u32)>>
         ensures answer { result ≡ search_answer (replay self.old.slots (writes_in self.old.events)) self.old.flight }
         ensures flight { self.new.flight ≡ drop 1 self.old.flight }
-        ensures journal { writes_in self.new.events ≡ writes_in self.old.events }
-        ensures events { self.new.events ≡ self.old.events }
-        ensures spare { self.new.spare ≡ self.old.spare }
-        ensures slots { self.new.slots ≡ self.old.slots }
-        ensures faults { self.new.faults ≡ self.old.faults }
+        ensures others { IsSameButFlight (shadow_as_device self.old) (shadow_as_device self.new) }
         ensures given { self.new.given ≡ self.old.given }
     {
         self.lookups.search()

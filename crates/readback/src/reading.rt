@@ -3,7 +3,7 @@
 ghost use Rattle.std.specs.Prelude.{◌≡◌, ◌<◌, ◌^◌, Some, IfOk, IfSome, IsNone, Contains, length};
 ghost use Rattle.rule_model.specs.declared.words.Entry as entries;
 ghost use Rattle.rule_model.specs.Entry.{RankedPiece, entry_for};
-ghost use Rattle.tcam_device.specs.State.{replay};
+ghost use Rattle.tcam_device.specs.View.{device_state};
 ghost use Rattle.readback.specs.Places.{AreIn};
 ghost use Rattle.readback.specs.Tasks.{known_pieces};
 
@@ -19,7 +19,7 @@ pub(crate) fn read_slots<D: ReadBack>(
     alloc: Global,
     device: &D,
 ) -> Result<Vec<Option<Entry>>, AllocError>
-    ensures slots { IfOk result (λ held. held.items ≡ (replay (D.slot_count device.now) (D.journal device.now)).slots) }
+    ensures slots { IfOk result (λ held. held.items ≡ (device_state (D.view device.now)).slots) }
     ensures few { IfOk result (λ held. length held.items < 2 ^ 32) }
 {
     let mut held = Vec::new(alloc);

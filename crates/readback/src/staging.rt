@@ -4,7 +4,8 @@ ghost use Rattle.std.specs.Prelude.{◌≡◌, ◌<◌, ◌≤◌, ◌^◌, leng
 ghost use Rattle.std.specs.List.{AllByRecursion};
 ghost use Rattle.rule_store.specs.Verdict.{Accepted, verdict};
 ghost use Rattle.rule_model.specs.Entry.{RankedPiece, IsEncodable};
-ghost use Rattle.tcam_device.specs.State.{IsState, State, replay};
+ghost use Rattle.tcam_device.specs.State.{IsState, State};
+ghost use Rattle.tcam_device.specs.View.{device_state, journal};
 ghost use Rattle.commit_writes.specs.Bits as bits;
 ghost use Rattle.readback.specs.Found.{AnswersStage, IsRead, IsShown, stage_in};
 ghost use Rattle.readback.specs.Laws.{CanCommit};
@@ -51,9 +52,9 @@ pub fn find_stage<D: ReadBack>(
     device: &D,
 ) -> Result<Stage, StageFault>
     requires accepted { verdict slots mode parts.now.rules.rules batch.now ≡ Accepted }
-    requires slots { slots ≤ D.slot_count device.now }
+    requires slots { slots ≤ (D.view device.now).slots }
     ensures { AnswersStage slots mode (record { src = parts.now.src; dst = parts.now.dst }) parts.now.rules.rules batch.now
-        (replay (D.slot_count device.now) (D.journal device.now)) result }
+        (device_state (D.view device.now)) result }
 {
     match show_commit(alloc, parts, batch, slots, mode, device) {
         Ok(shown) => Ok(shown.stage),
@@ -73,15 +74,15 @@ pub fn show_commit<D: ReadBack>(
     device: &D,
 ) -> Result<Shown, StageFault>
     requires accepted { verdict slots mode parts.now.rules.rules batch.now ≡ Accepted }
-    requires slots { slots ≤ D.slot_count device.now }
+    requires slots { slots ≤ (D.view device.now).slots }
     ensures stage { AnswersStage slots mode (record { src = parts.now.src; dst = parts.now.dst }) parts.now.rules.rules batch.now
-        (replay (D.slot_count device.now) (D.journal device.now)) (stage_in result) }
+        (device_state (D.view device.now)) (stage_in result) }
     ensures shown { IfOk result (IsShown (commit_pieces mode (record { src = parts.now.src; dst = parts.now.dst }) parts.now.rules.rules batch.now)
-        (replay (D.slot_count device.now) (D.journal device.now)).slots) }
+        (device_state (D.view device.now)).slots) }
     ensures encodable { IfOk result (λ shown. AllByRecursion (λ ranked. IsEncodable ranked.piece)
         (known_pieces (commit_pieces mode (record { src = parts.now.src; dst = parts.now.dst }) parts.now.rules.rules batch.now))) }
     ensures can { IfOk result (λ shown. CanCommit mode (record { src = parts.now.src; dst = parts.now.dst }) parts.now.rules.rules batch.now) }
-    ensures is_state { IfOk result (λ shown. IsState (D.slot_count device.now) (replay (D.slot_count device.now) (D.journal device.now))) }
+    ensures is_state { IfOk result (λ shown. IsState (D.view device.now).slots (device_state (D.view device.now))) }
 {
     let live = read_live(parts, batch, slots, mode, device)?;
     let commit = match commit_of(alloc, &live, &parts.rules, batch) {
@@ -107,9 +108,9 @@ fn read_live<D: ReadBack>(
 ) -> Result<Option<FieldBits>, StageFault>
     requires accepted { verdict slots mode parts.now.rules.rules batch.now ≡ Accepted }
     ensures read { IfOk result (IsRead mode (record { src = parts.now.src; dst = parts.now.dst }) parts.now.rules.rules batch.now
-        (D.slot_count device.now) (D.journal device.now)) }
+        (D.view device.now).slots (journal (D.view device.now))) }
     ensures wrong { IfErr result (λ fault. AnswersStage slots mode (record { src = parts.now.src; dst = parts.now.dst }) parts.now.rules.rules batch.now
-        (replay (D.slot_count device.now) (D.journal device.now)) (Err fault)) }
+        (device_state (D.view device.now)) (Err fault)) }
 {
     check_maps(parts, mode)?;
     let bits = FieldBits::of_maps(parts.src, parts.dst);
@@ -156,9 +157,9 @@ fn check_new_words<D: ReadBack>(
     live: &Option<FieldBits>,
 ) -> Result<(), StageFault>
     ensures right { OnOk result ((ranked : RankedPiece) → Contains commit.now.inserted ranked → stands_in held.now ranked ≡ true
-        → IfSome live.now (λ during. AreRight during (replay (D.slot_count device.now) (D.journal device.now)))) }
+        → IfSome live.now (λ during. AreRight during (device_state (D.view device.now)))) }
     ensures wrong { IfErr result (λ fault. (during : bits.FieldBits) × (live.now ≡ Some during)
-        × NamesWord during (replay (D.slot_count device.now) (D.journal device.now)) fault
+        × NamesWord during (device_state (D.view device.now)) fault
         × ((ranked : RankedPiece) × Contains commit.now.inserted ranked × (stands_in held.now ranked ≡ true))) }
 {
     match live {

@@ -3,7 +3,8 @@
 ghost use Rattle.std.specs.Prelude.{◌≡◌, ◌<◌, ◌^◌, ℕ, OnOk, IfErr, IsTrue, IsFalse, slice_index};
 ghost use Rattle.rule_model.specs.PortRange.{PortRange, is_bit_set, range_holds};
 ghost use Rattle.range_bits.specs.LiveRanges.{range_at};
-ghost use Rattle.tcam_device.specs.State.{replay, table_of};
+ghost use Rattle.tcam_device.specs.State.{table_of};
+ghost use Rattle.tcam_device.specs.View.{device_state};
 ghost use Rattle.commit_writes.specs.InFlight.{HasBits};
 ghost use Rattle.readback.specs.Fault.{IsWrongWord};
 ghost use Rattle.readback.specs.Words.{AreRight, AreShort, NamesWord};
@@ -15,9 +16,9 @@ use tcam_device::ReadBack;
 
 /// Whether each word of both tables has the bits of live ranges right. Each is read once.
 pub(crate) fn check_words<D: ReadBack>(device: &D, bits: &FieldBits) -> Result<(), StageFault>
-    ensures right { OnOk result (AreRight bits.now (replay (D.slot_count device.now) (D.journal device.now))) }
-    ensures short { OnOk result (AreShort (replay (D.slot_count device.now) (D.journal device.now))) }
-    ensures wrong { IfErr result (NamesWord bits.now (replay (D.slot_count device.now) (D.journal device.now))) }
+    ensures right { OnOk result (AreRight bits.now (device_state (D.view device.now))) }
+    ensures short { OnOk result (AreShort (device_state (D.view device.now))) }
+    ensures wrong { IfErr result (NamesWord bits.now (device_state (D.view device.now))) }
 {
     match check_table(device, Field::Src, bits.of(Field::Src)) {
         Ok(()) => {}
@@ -38,11 +39,11 @@ pub(crate) fn check_words<D: ReadBack>(device: &D, bits: &FieldBits) -> Result<(
 /// Whether each word of a field's table has the bits of live ranges right, or the first port whose word hasn't.
 fn check_table<D: ReadBack>(device: &D, field: Field, live: &BitMap) -> Result<(), u16>
     ensures right { OnOk result ((port : ℕ) → port < 2 ^ 16 → HasBits live.now port
-        (slice_index (table_of field (replay (D.slot_count device.now) (D.journal device.now))) port)) }
+        (slice_index (table_of field (device_state (D.view device.now))) port)) }
     ensures short { OnOk result ((port : ℕ) → port < 2 ^ 16
-        → slice_index (table_of field (replay (D.slot_count device.now) (D.journal device.now))) port < 2 ^ 16) }
+        → slice_index (table_of field (device_state (D.view device.now))) port < 2 ^ 16) }
     ensures wrong { IfErr result (λ port. IsWrongWord live.now port
-        (slice_index (table_of field (replay (D.slot_count device.now) (D.journal device.now))) port)) }
+        (slice_index (table_of field (device_state (D.view device.now))) port)) }
 {
     for place in 0..65_536u32 {
         let port = place as u16;

@@ -5,4 +5,5 @@ pub mod Searching
 pub mod Seeing
 pub mod Leftover
 pub mod Drains
+pub mod Views
 mod Depths

@@ -1,6 +1,5 @@
 -- What a run comes to where its commit crashes, and what is left of it then.
-use Rattle.std.specs.Prelude.{◌≡◌, ◌⊎◌, ℕ, ◌+◌, ◌<◌, ◌++◌, Bool, true, false, IsSome, IfSome, Option, Result, Ok, Err, List, [], length}
-use Rattle.tcam_device.specs.declared.Action.{Action}
+use Rattle.std.specs.Prelude.{◌≡◌, ◌⊎◌, ℕ, ◌+◌, ◌<◌, ◌++◌, Bool, true, false, IsSome, IfSome, Result, Ok, Err, List, [], length}
 use Rattle.tcam_device.specs.Flight.{Flight}
 use Rattle.commit_writes.specs.InFlight.{AreCurrent}
 use Rattle.batch_order.specs.Managed.{Managed, fresh, live_now, writes_due}
@@ -13,6 +12,7 @@ use Rattle.replay.specs.Run.{Progress}
 use Rattle.replay.specs.Carried.{IsAt, Does}
 use Rattle.replay.specs.Running.{Running, progress_of}
 use Rattle.replay.specs.Unfinished.{IsUnfinished, ResumesTo}
+use Rattle.replay.specs.Outside.{Outside}
 
 -- the commit under way has more writes than so many, those included that were made
 abbrev pub HasMoreThan : ℕ → Running → Type 0
@@ -26,19 +26,17 @@ pub record IsAtCrash (after : ℕ) (run : Running) : Type 0 where
   pub more : HasMoreThan after run
 
 -- some effects more of a commit came about, up to its crash, and it is unfinished
-pub record Continues (device_slots : ℕ) (before : Progress) (front : List Effect) (new : Running) (events_old events_new : List Action) (flight : Flight) (taken_old taken_new : Option (List ℕ)) : Type 0 where
+pub record Continues (device_slots : ℕ) (before : Progress) (front : List Effect) (new : Running) (out_old out_new : Outside) (flight : Flight) : Type 0 where
   pub more : List Effect
   pub unfinished : IsUnfinished device_slots before (front ++ more) new
-  pub does : Does more [] events_old events_new taken_old taken_new
-  pub stands : IsAt device_slots events_new (progress_of device_slots new)
+  pub does : Does more [] out_old.events out_new.events out_old.taken out_new.taken
+  pub stands : IsAt device_slots out_new.events (progress_of device_slots new)
   pub current : AreCurrent (live_now new.manager) flight
 
 -- what its first part comes to: its crash, or the write or the line that failed before
-abbrev pub ComesToCrash : ℕ → Progress → Act → List Effect → Running → Result (Unit {0}) RunFault → List Action → List Action → Flight → Option (List ℕ) → Option (List ℕ) → Type 0
-ComesToCrash device_slots before act front new (Ok done) events_old events_new flight taken_old taken_new =
-    Continues device_slots before front new events_old events_new flight taken_old taken_new
-ComesToCrash device_slots before act front new (Err why) events_old events_new flight taken_old taken_new =
-    ResumesTo device_slots before act front new (Err why) events_old events_new flight taken_old taken_new
+abbrev pub ComesToCrash : ℕ → Progress → Act → List Effect → Running → Result (Unit {0}) RunFault → Outside → Outside → Flight → Type 0
+ComesToCrash device_slots before act front new (Ok done) out_old out_new flight = Continues device_slots before front new out_old out_new flight
+ComesToCrash device_slots before act front new (Err why) out_old out_new flight = ResumesTo device_slots before act front new (Err why) out_old out_new flight
 
 -- another manager goes on with the commit
 abbrev pub IsGoneOnWith : ℕ → Running → Running → Type 0

@@ -3,51 +3,47 @@ use Rattle.std.specs.Prelude.{◌≡◌, ℕ, ◌-◌, ◌<◌, ◌++◌, Option
 use Rattle.tcam_device.specs.declared.Action.{Action}
 use Rattle.tcam_device.specs.Flight.{writes_in}
 use Rattle.commit_writes.specs.Actions.{up_to_writes}
-use Rattle.batch_order.specs.Managed.{Managed}
-use Rattle.replay.specs.declared.watch.Count.{Count}
 use Rattle.replay.specs.declared.steps.Ended.{Ended}
 use Rattle.replay.specs.declared.RunFault.{RunFault}
 use Rattle.replay.specs.Fates.{IsBefore, IsUpTo, IsWithinCrash}
 use Rattle.replay.specs.Carried.{CutsEffects}
-use Rattle.replay.specs.Running.{Watching, HasCome, MakesAll, MakesSome, StopsAtLine, StopsAtWrite, FailsBy, TellsActions, effects_on}
+use Rattle.replay.specs.Running.{Watching, Snapshot, HasCome, MakesAll, MakesSome, StopsAtLine, StopsAtWrite, FailsBy, TellsActions, effects_on}
 
 -- All actions up to the crash are made and told, and more writes are left.
-pub record Pauses (Seen : Type 0) (after : ℕ) (begun now : Managed) (watch : Watching) (device_slots : ℕ) (count count_now : Count) (events_begun events_now : List Action) (taken_begun taken_now : Option (List ℕ)) : Type 0 where
-  pub some : MakesSome None count.told begun now
-  pub before : IsUpTo (after - count.told) some.made some.left
-  pub more : after - count.told < length (writes_in (some.made ++ some.left))
-  pub reached : count_now.told ≡ after
-  pub come : HasCome watch count count_now some.made
-  pub events : events_now ≡ events_begun ++ some.made
-  pub report : Seen → TellsActions begun watch device_slots count events_begun some.made taken_begun taken_now
+pub record Pauses (Seen : Type 0) (after : ℕ) (watch : Watching) (device_slots : ℕ) (begun now : Snapshot) : Type 0 where
+  pub some : MakesSome None begun.count.told begun.manager now.manager
+  pub before : IsUpTo (after - begun.count.told) some.made some.left
+  pub more : after - begun.count.told < length (writes_in (some.made ++ some.left))
+  pub reached : now.count.told ≡ after
+  pub come : HasCome watch begun.count now.count some.made
+  pub events : now.out.events ≡ begun.out.events ++ some.made
+  pub report : Seen → TellsActions begun.manager watch device_slots begun.count begun.out.events some.made begun.out.taken now.out.taken
 
 -- Where a crash comes behind so many writes of them, the line that isn't told whole is one of those before.
-abbrev pub CutsFirst : Type 0 → Option ℕ → Managed → Watching → ℕ → Count → List Action → List Action → List Action → List Action → Option (List ℕ) → Option (List ℕ) → Type 0
-CutsFirst Seen stop begun watch device_slots count made left events_begun events_now taken_begun taken_now =
-    IfSome stop (λ after. after - count.told < length (writes_in (made ++ left)) → Seen
-    → CutsEffects (effects_on begun watch device_slots count events_begun (made ++ up_to_writes (after - count.told - length (writes_in made)) left)) events_begun events_now taken_begun taken_now)
+abbrev pub CutsFirst : Type 0 → Option ℕ → Watching → ℕ → Snapshot → Snapshot → List Action → List Action → Type 0
+CutsFirst Seen stop watch device_slots begun now made left =
+    IfSome stop (λ after. after - begun.count.told < length (writes_in (made ++ left)) → Seen
+    → CutsEffects (effects_on begun.manager watch device_slots begun.count begun.out.events (made ++ up_to_writes (after - begun.count.told - length (writes_in made)) left))
+    begun.out.events now.out.events begun.out.taken now.out.taken)
 
 -- some are made up to a line that isn't told whole, or up to a write, and no more than come before the crash
-abbrev pub StopsEarlier : Type 0 → Option ℕ → Option ℕ → Managed → Managed → Watching → ℕ → Count → Count → RunFault → List Action → List Action → Option (List ℕ) → Option (List ℕ) → Type 0
-StopsEarlier Seen most stop begun now watch device_slots count count_now why events_begun events_now taken_begun taken_now =
-    FailsBy ((stops : StopsAtLine Seen most begun now watch device_slots count count_now events_begun events_now taken_begun taken_now)
-    × IsBefore stop count.told stops.some.made stops.some.left × IsWithinCrash stop count_now.told
-    × CutsFirst Seen stop begun watch device_slots count stops.some.made stops.some.left events_begun events_now taken_begun taken_now)
-    ((stops : StopsAtWrite Seen most begun now watch device_slots count count_now events_begun events_now taken_begun taken_now)
-    × IsBefore stop count.told stops.some.made stops.some.left × IfSome stop (λ after. count_now.told < after)) why
+abbrev pub StopsEarlier : Type 0 → Option ℕ → Option ℕ → Watching → ℕ → Snapshot → Snapshot → RunFault → Type 0
+StopsEarlier Seen most stop watch device_slots begun now why =
+    FailsBy ((stops : StopsAtLine Seen most watch device_slots begun now)
+    × IsBefore stop begun.count.told stops.some.made stops.some.left × IsWithinCrash stop now.count.told
+    × CutsFirst Seen stop watch device_slots begun now stops.some.made stops.some.left)
+    ((stops : StopsAtWrite Seen most watch device_slots begun now)
+    × IsBefore stop begun.count.told stops.some.made stops.some.left × IfSome stop (λ after. now.count.told < after)) why
 
 -- they are made to the end of the commit, or up to its crash, or some of them are
-abbrev pub MakesUntil : Type 0 → Option ℕ → Option ℕ → Managed → Managed → Watching → ℕ → Count → Count → Result (Option Ended) RunFault → List Action → List Action → Option (List ℕ) → Option (List ℕ) → Type 0
-MakesUntil Seen most stop begun now watch device_slots count count_now (Ok (Some ended)) events_begun events_now taken_begun taken_now =
-    MakesAll Seen most begun watch device_slots count count_now ended now events_begun events_now taken_begun taken_now × IsWithinCrash stop count_now.told
-MakesUntil Seen most stop begun now watch device_slots count count_now (Ok None) events_begun events_now taken_begun taken_now =
-    elim stop [ None ↦ ⊥ | Some after ↦ Pauses Seen after begun now watch device_slots count count_now events_begun events_now taken_begun taken_now ]
-MakesUntil Seen most stop begun now watch device_slots count count_now (Err fault) events_begun events_now taken_begun taken_now =
-    StopsEarlier Seen most stop begun now watch device_slots count count_now fault events_begun events_now taken_begun taken_now
+abbrev pub MakesUntil : Type 0 → Option ℕ → Option ℕ → Watching → ℕ → Snapshot → Snapshot → Result (Option Ended) RunFault → Type 0
+MakesUntil Seen most stop watch device_slots begun now (Ok (Some ended)) =
+    MakesAll Seen most watch device_slots begun ended now × IsWithinCrash stop now.count.told
+MakesUntil Seen most stop watch device_slots begun now (Ok None) =
+    elim stop [ None ↦ ⊥ | Some after ↦ Pauses Seen after watch device_slots begun now ]
+MakesUntil Seen most stop watch device_slots begun now (Err fault) = StopsEarlier Seen most stop watch device_slots begun now fault
 
 -- they are made up to the crash, or some of them are
-abbrev pub MakesUpTo : Type 0 → ℕ → Managed → Managed → Watching → ℕ → Count → Count → Result (Unit {0}) RunFault → List Action → List Action → Option (List ℕ) → Option (List ℕ) → Type 0
-MakesUpTo Seen after begun now watch device_slots count count_now (Ok done) events_begun events_now taken_begun taken_now =
-    Pauses Seen after begun now watch device_slots count count_now events_begun events_now taken_begun taken_now
-MakesUpTo Seen after begun now watch device_slots count count_now (Err fault) events_begun events_now taken_begun taken_now =
-    StopsEarlier Seen None (Some after) begun now watch device_slots count count_now fault events_begun events_now taken_begun taken_now
+abbrev pub MakesUpTo : Type 0 → ℕ → Watching → ℕ → Snapshot → Snapshot → Result (Unit {0}) RunFault → Type 0
+MakesUpTo Seen after watch device_slots begun now (Ok done) = Pauses Seen after watch device_slots begun now
+MakesUpTo Seen after watch device_slots begun now (Err fault) = StopsEarlier Seen None (Some after) watch device_slots begun now fault

@@ -45,6 +45,7 @@ use Rattle.replay.specs.declared.ActFault.TheVariants.{BatchFull, ProbesFull, He
 use Rattle.replay.specs.declared.RunFault.{RunFault}
 use Rattle.replay.specs.declared.RunFault.TheVariants.{Sink, Device, Memory}
 use Rattle.replay.specs.Carried.{IsAt, Carries, CutsAtLine, CutsAtWrite, CutsEffects, Wants}
+use Rattle.replay.specs.Outside.{Outside}
 
 -- what is told of each write: how rules are named, whether a trace is wanted, after how many further writes a probe's
 -- word is searched, whether all is told in JSON, and the keys that are probed
@@ -293,7 +294,7 @@ IsToldIn json version (Trial most) = json ≡ false
 IsToldIn json version (Crash after) = json ≡ false
 
 -- nothing is done, not of the run, of the device, or of the sink
-pub record IsUntouched (old new : Running) (events_old events_new : List Action) (taken_old taken_new : Option (List ℕ)) : Type 0 where
+pub record NothingIsDone (old new : Running) (events_old events_new : List Action) (taken_old taken_new : Option (List ℕ)) : Type 0 where
   pub run : new ≡ old
   pub events : events_new ≡ events_old
   pub report : taken_new ≡ taken_old
@@ -320,17 +321,17 @@ ComesTo device_slots old act new (Err (Stopped Memory)) events_old events_new ta
     elim new.broken [
       | false ↦
           Wants (setting_of old) (progress_of device_slots old) act events_old events_new taken_old taken_new
-          × IsUntouched old new events_old events_new taken_old taken_new
+          × NothingIsDone old new events_old events_new taken_old taken_new
       | true ↦
           IsAt device_slots events_old (progress_of device_slots old)
           → Wants (setting_of old) (progress_of device_slots old) act events_old events_new taken_old taken_new
     ]
 ComesTo device_slots old act new (Err BatchFull) events_old events_new taken_old taken_new =
-    IsUntouched old new events_old events_new taken_old taken_new
+    NothingIsDone old new events_old events_new taken_old taken_new
 ComesTo device_slots old act new (Err ProbesFull) events_old events_new taken_old taken_new =
-    IsUntouched old new events_old events_new taken_old taken_new
+    NothingIsDone old new events_old events_new taken_old taken_new
 ComesTo device_slots old act new (Err (Held left)) events_old events_new taken_old taken_new =
-    IsUntouched old new events_old events_new taken_old taken_new
+    NothingIsDone old new events_old events_new taken_old taken_new
 
 -- the words in flight are those that a run left: none while no commit is unfinished
 abbrev pub AreLeft : Running → Flight → Type 0
@@ -417,44 +418,51 @@ abbrev pub ended_line : Bool → ℕ → Fate → Ended → ℕ → List ℕ
 ended_line json commit fate (ended.Finished done) writes = finished_line json commit fate done writes
 ended_line json commit fate ended.Reverted writes = aborted_line commit writes
 
+-- a commit under way at a moment: its manager, how far it has come, and what stands outside of the run
+pub record Snapshot : Type 0 where
+  pub manager : Managed
+  pub count : Count
+  pub out : Outside
+
+abbrev pub snapshot : Managed → Count → Outside → Snapshot
+snapshot manager count out = record { manager = manager; count = count; out = out }
+
 -- All of them are made, and told where the device and the words in flight were as they should be when they began
 -- (`Seen`).
-pub record MakesAll (Seen : Type 0) (most : Option ℕ) (begun : Managed) (watch : Watching) (device_slots : ℕ) (count count_now : Count) (ended : Ended) (now : Managed) (events_begun events_now : List Action) (taken_begun taken_now : Option (List ℕ)) : Type 0 where
+pub record MakesAll (Seen : Type 0) (most : Option ℕ) (watch : Watching) (device_slots : ℕ) (begun : Snapshot) (ended : Ended) (now : Snapshot) : Type 0 where
   pub held : HeldCommit
   pub actions : List Action
-  pub held_is : begun.held ≡ Some held
-  pub actions_are : actions ≡ actions_left (trial_rest most count.told) begun.state held
-  pub ends : EndsBy (goes_back (trial_rest most count.told) held) begun held actions ended now
-  pub come : HasCome watch count count_now actions
-  pub events : events_now ≡ events_begun ++ actions
-  pub report : Seen → TellsActions begun watch device_slots count events_begun actions taken_begun taken_now
+  pub held_is : begun.manager.held ≡ Some held
+  pub actions_are : actions ≡ actions_left (trial_rest most begun.count.told) begun.manager.state held
+  pub ends : EndsBy (goes_back (trial_rest most begun.count.told) held) begun.manager held actions ended now.manager
+  pub come : HasCome watch begun.count now.count actions
+  pub events : now.out.events ≡ begun.out.events ++ actions
+  pub report : Seen → TellsActions begun.manager watch device_slots begun.count begun.out.events actions begun.out.taken now.out.taken
 
 -- some of them are made and told, and the next one, a write, isn't made
-pub record StopsAtWrite (Seen : Type 0) (most : Option ℕ) (begun now : Managed) (watch : Watching) (device_slots : ℕ) (count count_now : Count) (events_begun events_now : List Action) (taken_begun taken_now : Option (List ℕ)) : Type 0 where
-  pub some : MakesSome most count.told begun now
+pub record StopsAtWrite (Seen : Type 0) (most : Option ℕ) (watch : Watching) (device_slots : ℕ) (begun now : Snapshot) : Type 0 where
+  pub some : MakesSome most begun.count.told begun.manager now.manager
   pub due : Write
   pub left : List Action
   pub left_is : some.left ≡ Written due ∷ left
-  pub next : next_of now.held ≡ Some due
-  pub come : HasCome watch count count_now some.made
-  pub events : events_now ≡ events_begun ++ some.made
-  pub report : Seen → TellsActions begun watch device_slots count events_begun some.made taken_begun taken_now
+  pub next : next_of now.manager.held ≡ Some due
+  pub come : HasCome watch begun.count now.count some.made
+  pub events : now.out.events ≡ begun.out.events ++ some.made
+  pub report : Seen → TellsActions begun.manager watch device_slots begun.count begun.out.events some.made begun.out.taken now.out.taken
 
 -- some of them are made, and a line of the last one, or of the drain that is next, isn't told whole
-pub record StopsAtLine (Seen : Type 0) (most : Option ℕ) (begun now : Managed) (watch : Watching) (device_slots : ℕ) (count count_now : Count) (events_begun events_now : List Action) (taken_begun taken_now : Option (List ℕ)) : Type 0 where
-  pub some : MakesSome most count.told begun now
-  pub come : HasCome watch count count_now some.made
-  pub events : events_now ≡ events_begun ++ some.made
-  pub cuts : Seen → CutsEffects (effects_on begun watch device_slots count events_begun (some.made ++ some.left)) events_begun events_now taken_begun taken_now
+pub record StopsAtLine (Seen : Type 0) (most : Option ℕ) (watch : Watching) (device_slots : ℕ) (begun now : Snapshot) : Type 0 where
+  pub some : MakesSome most begun.count.told begun.manager now.manager
+  pub come : HasCome watch begun.count now.count some.made
+  pub events : now.out.events ≡ begun.out.events ++ some.made
+  pub cuts : Seen → CutsEffects (effects_on begun.manager watch device_slots begun.count begun.out.events (some.made ++ some.left)) begun.out.events now.out.events begun.out.taken now.out.taken
 
 -- a fault is the sink's, and then this, or the device's, and then that
 abbrev pub FailsBy : Type 0 → Type 0 → RunFault → Type 0
 FailsBy AtLine AtWrite why = ((why ≡ Sink) × AtLine) ⊎ ((why ≡ Device) × AtWrite)
 
 -- what comes of the actions that are left of a commit under way, by the answer
-abbrev pub Makes : Type 0 → Option ℕ → Managed → Managed → Watching → ℕ → Count → Count → Result Ended RunFault → List Action → List Action → Option (List ℕ) → Option (List ℕ) → Type 0
-Makes Seen most begun now watch device_slots count count_now (Ok ended) events_begun events_now taken_begun taken_now =
-    MakesAll Seen most begun watch device_slots count count_now ended now events_begun events_now taken_begun taken_now
-Makes Seen most begun now watch device_slots count count_now (Err why) events_begun events_now taken_begun taken_now =
-    FailsBy (StopsAtLine Seen most begun now watch device_slots count count_now events_begun events_now taken_begun taken_now)
-    (StopsAtWrite Seen most begun now watch device_slots count count_now events_begun events_now taken_begun taken_now) why
+abbrev pub Makes : Type 0 → Option ℕ → Watching → ℕ → Snapshot → Snapshot → Result Ended RunFault → Type 0
+Makes Seen most watch device_slots begun now (Ok ended) = MakesAll Seen most watch device_slots begun ended now
+Makes Seen most watch device_slots begun now (Err why) =
+    FailsBy (StopsAtLine Seen most watch device_slots begun now) (StopsAtWrite Seen most watch device_slots begun now) why

@@ -1,5 +1,5 @@
 -- What becomes of a commit that is unfinished, where it is gone on with.
-use Rattle.std.specs.Prelude.{◌≡◌, ◌⊎◌, ℕ, ◌++◌, false, Option, Some, Result, Ok, Err, List, []}
+use Rattle.std.specs.Prelude.{◌≡◌, ◌⊎◌, ℕ, ◌++◌, false, Some, Result, Ok, Err, List, []}
 use Rattle.rule_store.specs.Verdict.{Accepted, verdict}
 use Rattle.tcam_device.specs.declared.Write.{Write}
 use Rattle.tcam_device.specs.declared.Action.{Action}
@@ -17,6 +17,7 @@ use Rattle.replay.specs.Run.{Progress, HasEffects, IsCutStep, StopsAtCrash, carr
 use Rattle.replay.specs.Carried.{IsAt, Does}
 use Rattle.replay.specs.Fates.{commit_act}
 use Rattle.replay.specs.Running.{Running, IsHalfway, IsOnward, first_actions, progress_of, setting_of}
+use Rattle.replay.specs.Outside.{Outside}
 
 -- A commit that began where `before` says is unfinished: these are its effects so far, each of its writes told, and the
 -- rest of its writes is held, by its first manager,
@@ -38,31 +39,31 @@ IsUnfinished device_slots before front run =
 
 -- Some effects more of it came about, each write told, and it is cut at the write that is next. The device is where the
 -- run stands then, and the words in flight are current. What is to become of it is as the act has it.
-pub record StaysUnfinished (device_slots : ℕ) (before : Progress) (act : Act) (front : List Effect) (new : Running) (events_old events_new : List Action) (flight : Flight) (taken_old taken_new : Option (List ℕ)) : Type 0 where
+pub record StaysUnfinished (device_slots : ℕ) (before : Progress) (act : Act) (front : List Effect) (new : Running) (out_old out_new : Outside) (flight : Flight) : Type 0 where
   pub more : List Effect
   pub due : Write
   pub unfinished : IsUnfinished device_slots before (front ++ more) new
   pub act_is : act ≡ commit_act new.fate
   pub next : next_of new.manager.held ≡ Some due
   pub cut : IsCutStep (setting_of new) before act (front ++ more) (Acts (Written due))
-  pub does : Does more [] events_old events_new taken_old taken_new
-  pub stands : IsAt device_slots events_new (progress_of device_slots new)
+  pub does : Does more [] out_old.events out_new.events out_old.taken out_new.taken
+  pub stands : IsAt device_slots out_new.events (progress_of device_slots new)
   pub current : AreCurrent (live_now new.manager) flight
 
 -- The rest of them came about, and it is finished. The device is where the run stands then.
-pub record Finishes (device_slots : ℕ) (before : Progress) (act : Act) (front : List Effect) (new : Running) (events_old events_new : List Action) (taken_old taken_new : Option (List ℕ)) : Type 0 where
+pub record Finishes (device_slots : ℕ) (before : Progress) (act : Act) (front : List Effect) (new : Running) (out_old out_new : Outside) : Type 0 where
   pub rest : List Effect
   pub step : HasEffects (setting_of new) before act (front ++ rest) (progress_of device_slots new)
-  pub does : Does rest [] events_old events_new taken_old taken_new
-  pub stands : IsAt device_slots events_new (progress_of device_slots new)
+  pub does : Does rest [] out_old.events out_new.events out_old.taken out_new.taken
+  pub stands : IsAt device_slots out_new.events (progress_of device_slots new)
 
 -- Some effects more of it came about, up to a line that the sink didn't take whole.
-pub record BreaksOff (device_slots : ℕ) (before : Progress) (act : Act) (front : List Effect) (new : Running) (events_old events_new : List Action) (taken_old taken_new : Option (List ℕ)) : Type 0 where
+pub record BreaksOff (device_slots : ℕ) (before : Progress) (act : Act) (front : List Effect) (new : Running) (out_old out_new : Outside) : Type 0 where
   pub more : List Effect
   pub partial : List ℕ
   pub rest : List ℕ
   pub cut : IsCutStep (setting_of new) before act (front ++ more) (Prints (partial ++ rest))
-  pub does : Does more partial events_old events_new taken_old taken_new
+  pub does : Does more partial out_old.events out_new.events out_old.taken out_new.taken
 
 -- Where a call may follow, the device is where the run stands, and the words in flight are current, if so it was before.
 abbrev pub StaysInStep : ℕ → Running → Running → List Action → List Action → Flight → Flight → Type 0
@@ -82,18 +83,14 @@ TakesAtCrash setting before (Crash after) effects =
     (verdict setting.slots setting.mode before.rules before.batch ≡ Accepted) × StopsAtCrash setting before after effects
 
 -- Some effects more of it came about, up to its crash, and there is no memory to go on.
-pub record RunsOut (device_slots : ℕ) (before : Progress) (act : Act) (front : List Effect) (new : Running) (events_old events_new : List Action) (taken_old taken_new : Option (List ℕ)) : Type 0 where
+pub record RunsOut (device_slots : ℕ) (before : Progress) (act : Act) (front : List Effect) (new : Running) (out_old out_new : Outside) : Type 0 where
   pub more : List Effect
   pub needs : TakesAtCrash (setting_of new) before act (front ++ more)
-  pub does : Does more [] events_old events_new taken_old taken_new
+  pub does : Does more [] out_old.events out_new.events out_old.taken out_new.taken
 
 -- What going on with it comes to: it is finished, or cut at the write or at the line that failed, or at its crash.
-abbrev pub ResumesTo : ℕ → Progress → Act → List Effect → Running → Result (Unit {0}) RunFault → List Action → List Action → Flight → Option (List ℕ) → Option (List ℕ) → Type 0
-ResumesTo device_slots before act front new (Ok done) events_old events_new flight taken_old taken_new =
-    Finishes device_slots before act front new events_old events_new taken_old taken_new
-ResumesTo device_slots before act front new (Err Device) events_old events_new flight taken_old taken_new =
-    StaysUnfinished device_slots before act front new events_old events_new flight taken_old taken_new
-ResumesTo device_slots before act front new (Err Sink) events_old events_new flight taken_old taken_new =
-    BreaksOff device_slots before act front new events_old events_new taken_old taken_new
-ResumesTo device_slots before act front new (Err Memory) events_old events_new flight taken_old taken_new =
-    RunsOut device_slots before act front new events_old events_new taken_old taken_new
+abbrev pub ResumesTo : ℕ → Progress → Act → List Effect → Running → Result (Unit {0}) RunFault → Outside → Outside → Flight → Type 0
+ResumesTo device_slots before act front new (Ok done) out_old out_new flight = Finishes device_slots before act front new out_old out_new
+ResumesTo device_slots before act front new (Err Device) out_old out_new flight = StaysUnfinished device_slots before act front new out_old out_new flight
+ResumesTo device_slots before act front new (Err Sink) out_old out_new flight = BreaksOff device_slots before act front new out_old out_new
+ResumesTo device_slots before act front new (Err Memory) out_old out_new flight = RunsOut device_slots before act front new out_old out_new

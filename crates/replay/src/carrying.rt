@@ -1,6 +1,6 @@
 //! A commit under way is carried out: by its manager to the end, or by two of them where it crashes between.
 
-ghost use Rattle.std.specs.Prelude.{Bool, true, false, ◌≡◌, ◌≢◌, ◌⊎◌, ◌+◌, ◌<◌, ◌≤◌, ◌^◌, ◌++◌, ◌∷◌, [], ℕ, List, Ok, Err, IsSome, IsNone, IfSome, IfErr, OnOk, OnErr, None, Some};
+ghost use Rattle.std.specs.Prelude.{Bool, true, false, ◌≡◌, ◌≢◌, ◌⊎◌, ◌+◌, ◌<◌, ◌≤◌, ◌^◌, [], List, Ok, Err, IsSome, IsNone, IfSome, IfErr, OnOk, OnErr, None, Some};
 ghost use Rattle.script_lines.specs.Given.{counted};
 ghost use Rattle.commit_writes.specs.InFlight.{AreCurrent};
 ghost use Rattle.batch_order.specs.CarriedOut.{HasRoomBothWays};
@@ -9,12 +9,13 @@ ghost use Rattle.replay.specs.Effects.{Effect};
 ghost use Rattle.replay.specs.Reports.{done_line, opened};
 ghost use Rattle.replay.specs.Run.{Progress};
 ghost use Rattle.report_lines.specs.Outside.{WritesLine};
-ghost use Rattle.replay.specs.Outside.{Leaves};
+ghost use Rattle.replay.specs.Outside.{Leaves, outside};
 ghost use Rattle.replay.specs.Carried.{IsAt};
 ghost use Rattle.replay.specs.Fates.{IsToCrash, commit_act, crash_of};
 ghost use Rattle.replay.specs.Running.{act_outcome_of, AreLeft, LeavesWords, ended_line, progress_of, setting_of};
 ghost use Rattle.replay.specs.Unfinished.{IsUnfinished, ResumesTo, StaysInStep, TakesAtCrash};
 ghost use Rattle.replay.specs.Crashing.{ComesToCrash, HasMoreThan, IsAtCrash, IsGoneOnWith, IsLost, memory_wanted};
+ghost use Rattle.tcam_device.specs.View.{IsSameButSpare};
 
 use crate::RunFault;
 use crate::fate::Fate;
@@ -38,28 +39,29 @@ impl Run {
         sink: &mut K,
         device: &mut D,
     ) -> Result<(), RunFault>
-        requires slots { self.old.manager.slots ≤ D.slot_count device.old }
-        requires in_flight { AreLeft self.old (D.flight device.old) }
+        requires slots { self.old.manager.slots ≤ (D.view device.old).slots }
+        requires in_flight { AreLeft self.old (D.view device.old).flight }
         requires held { IsSome self.old.manager.held }
         requires whole { self.old.broken ≡ false }
-        requires room { HasRoomBothWays self.old.manager.held (D.spare device.old) }
-        requires stands { IsToCrash self.old.fate → IsAt (D.slot_count device.old) (D.events device.old) (progress_of (D.slot_count device.old) self.old) }
+        requires room { HasRoomBothWays self.old.manager.held (D.view device.old).spare }
+        requires stands { IsToCrash self.old.fate → IsAt (D.view device.old).slots (D.view device.old).events (progress_of (D.view device.old).slots self.old) }
         requires commits { self.old.commits < 2 ^ 24 }
         requires told { self.old.json ≡ true → self.old.fate ≡ Fate.ToTheEnd }
-        ensures resumes { (which : Bool) → (before : Progress) → IsUnfinished (D.slot_count device.old) before (opened (setting_of self.old) self.old.commits self.old.pending) self.old
-            → IsAt (D.slot_count device.old) (D.events device.old) (progress_of (D.slot_count device.old) self.old)
-            → AreCurrent (live_now self.old.manager) (D.flight device.old)
-            → ResumesTo (D.slot_count device.old) before (commit_act self.old.fate) [] self.new result
-            (D.events device.old) (D.events device.new) (D.flight device.new) (counted which (K.taken sink.old) (K.accepted sink.old)) (counted which (K.taken sink.new) (K.accepted sink.new)) }
+        ensures resumes { (which : Bool) → (before : Progress) → IsUnfinished (D.view device.old).slots before (opened (setting_of self.old) self.old.commits self.old.pending) self.old
+            → IsAt (D.view device.old).slots (D.view device.old).events (progress_of (D.view device.old).slots self.old)
+            → AreCurrent (live_now self.old.manager) (D.view device.old).flight
+            → ResumesTo (D.view device.old).slots before (commit_act self.old.fate) [] self.new result
+            (outside (D.view device.old).events (counted which (K.taken sink.old) (K.accepted sink.old)))
+            (outside (D.view device.new).events (counted which (K.taken sink.new) (K.accepted sink.new))) (D.view device.new).flight }
         ensures kind { IfErr result (λ fault. (fault ≡ RunFault.Sink) ⊎ ((fault ≡ RunFault.Device) ⊎ ((fault ≡ RunFault.Memory) × IsToCrash self.old.fate))) }
         ensures idle { OnOk result (self.new.manager.held ≡ None) }
         ensures broken { self.new.broken ≡ memory_wanted result }
-        ensures room { HasRoomBothWays self.new.manager.held (D.spare device.new) }
+        ensures room { HasRoomBothWays self.new.manager.held (D.view device.new).spare }
         ensures setting { setting_of self.new ≡ setting_of self.old }
         ensures commits { self.new.commits ≤ self.old.commits + 1 }
-        ensures in_flight { LeavesWords self.new (act_outcome_of result) (D.flight device.old) (D.flight device.new) }
-        ensures in_step { result ≢ Err RunFault.Sink → StaysInStep (D.slot_count device.old) self.old self.new (D.events device.old) (D.events device.new) (D.flight device.old) (D.flight device.new) }
-        ensures leaves { Leaves K.taken K.faults sink.old sink.new D.slot_count D.journal D.faults device.old device.new (result ≡ Err RunFault.Sink) (result ≡ Err RunFault.Device) }
+        ensures in_flight { LeavesWords self.new (act_outcome_of result) (D.view device.old).flight (D.view device.new).flight }
+        ensures in_step { result ≢ Err RunFault.Sink → StaysInStep (D.view device.old).slots self.old self.new (D.view device.old).events (D.view device.new).events (D.view device.old).flight (D.view device.new).flight }
+        ensures leaves { Leaves K.taken K.faults sink.old sink.new (D.view device.old) (D.view device.new) (result ≡ Err RunFault.Sink) (result ≡ Err RunFault.Device) }
     {
         match self.open(sink) {
             Ok(()) => self.carry_out(sink, device),
@@ -74,27 +76,28 @@ impl Run {
         sink: &mut K,
         device: &mut D,
     ) -> Result<(), RunFault>
-        requires slots { self.old.manager.slots ≤ D.slot_count device.old }
-        requires in_flight { AreLeft self.old (D.flight device.old) }
+        requires slots { self.old.manager.slots ≤ (D.view device.old).slots }
+        requires in_flight { AreLeft self.old (D.view device.old).flight }
         requires held { IsSome self.old.manager.held }
         requires whole { self.old.broken ≡ false }
-        requires room { HasRoomBothWays self.old.manager.held (D.spare device.old) }
-        requires stands { IsToCrash self.old.fate → IsAt (D.slot_count device.old) (D.events device.old) (progress_of (D.slot_count device.old) self.old) }
+        requires room { HasRoomBothWays self.old.manager.held (D.view device.old).spare }
+        requires stands { IsToCrash self.old.fate → IsAt (D.view device.old).slots (D.view device.old).events (progress_of (D.view device.old).slots self.old) }
         requires commits { self.old.commits < 2 ^ 24 }
-        ensures resumes { (which : Bool) → (before : Progress) → (front : List Effect) → IsUnfinished (D.slot_count device.old) before front self.old
-            → IsAt (D.slot_count device.old) (D.events device.old) (progress_of (D.slot_count device.old) self.old)
-            → AreCurrent (live_now self.old.manager) (D.flight device.old)
-            → ResumesTo (D.slot_count device.old) before (commit_act self.old.fate) front self.new result
-            (D.events device.old) (D.events device.new) (D.flight device.new) (counted which (K.taken sink.old) (K.accepted sink.old)) (counted which (K.taken sink.new) (K.accepted sink.new)) }
+        ensures resumes { (which : Bool) → (before : Progress) → (front : List Effect) → IsUnfinished (D.view device.old).slots before front self.old
+            → IsAt (D.view device.old).slots (D.view device.old).events (progress_of (D.view device.old).slots self.old)
+            → AreCurrent (live_now self.old.manager) (D.view device.old).flight
+            → ResumesTo (D.view device.old).slots before (commit_act self.old.fate) front self.new result
+            (outside (D.view device.old).events (counted which (K.taken sink.old) (K.accepted sink.old)))
+            (outside (D.view device.new).events (counted which (K.taken sink.new) (K.accepted sink.new))) (D.view device.new).flight }
         ensures kind { IfErr result (λ fault. (fault ≡ RunFault.Sink) ⊎ ((fault ≡ RunFault.Device) ⊎ ((fault ≡ RunFault.Memory) × IsToCrash self.old.fate))) }
         ensures idle { OnOk result (self.new.manager.held ≡ None) }
         ensures broken { self.new.broken ≡ memory_wanted result }
-        ensures room { HasRoomBothWays self.new.manager.held (D.spare device.new) }
+        ensures room { HasRoomBothWays self.new.manager.held (D.view device.new).spare }
         ensures setting { setting_of self.new ≡ setting_of self.old }
         ensures commits { self.new.commits ≤ self.old.commits + 1 }
-        ensures in_flight { LeavesWords self.new (act_outcome_of result) (D.flight device.old) (D.flight device.new) }
-        ensures in_step { result ≢ Err RunFault.Sink → StaysInStep (D.slot_count device.old) self.old self.new (D.events device.old) (D.events device.new) (D.flight device.old) (D.flight device.new) }
-        ensures leaves { Leaves K.taken K.faults sink.old sink.new D.slot_count D.journal D.faults device.old device.new (result ≡ Err RunFault.Sink) (result ≡ Err RunFault.Device) }
+        ensures in_flight { LeavesWords self.new (act_outcome_of result) (D.view device.old).flight (D.view device.new).flight }
+        ensures in_step { result ≢ Err RunFault.Sink → StaysInStep (D.view device.old).slots self.old self.new (D.view device.old).events (D.view device.new).events (D.view device.old).flight (D.view device.new).flight }
+        ensures leaves { Leaves K.taken K.faults sink.old sink.new (D.view device.old) (D.view device.new) (result ≡ Err RunFault.Sink) (result ≡ Err RunFault.Device) }
     {
         if let Some(after) = self.crash_ahead() {
             match self.come_to_crash(after, sink, device) {
@@ -133,29 +136,30 @@ impl Run {
         sink: &mut K,
         device: &mut D,
     ) -> Result<(), RunFault>
-        requires slots { self.old.manager.slots ≤ D.slot_count device.old }
-        requires in_flight { AreLeft self.old (D.flight device.old) }
+        requires slots { self.old.manager.slots ≤ (D.view device.old).slots }
+        requires in_flight { AreLeft self.old (D.view device.old).flight }
         requires crashes { self.old.fate ≡ Fate.CrashAfter after }
         requires held { IsSome self.old.manager.held }
         requires more { HasMoreThan after self.old }
-        requires room { HasRoomBothWays self.old.manager.held (D.spare device.old) }
-        ensures comes { (which : Bool) → (before : Progress) → (front : List Effect) → IsUnfinished (D.slot_count device.old) before front self.old
-            → IsAt (D.slot_count device.old) (D.events device.old) (progress_of (D.slot_count device.old) self.old)
-            → AreCurrent (live_now self.old.manager) (D.flight device.old)
-            → ComesToCrash (D.slot_count device.old) before (commit_act self.old.fate) front self.new result
-            (D.events device.old) (D.events device.new) (D.flight device.new) (counted which (K.taken sink.old) (K.accepted sink.old)) (counted which (K.taken sink.new) (K.accepted sink.new)) }
+        requires room { HasRoomBothWays self.old.manager.held (D.view device.old).spare }
+        ensures comes { (which : Bool) → (before : Progress) → (front : List Effect) → IsUnfinished (D.view device.old).slots before front self.old
+            → IsAt (D.view device.old).slots (D.view device.old).events (progress_of (D.view device.old).slots self.old)
+            → AreCurrent (live_now self.old.manager) (D.view device.old).flight
+            → ComesToCrash (D.view device.old).slots before (commit_act self.old.fate) front self.new result
+            (outside (D.view device.old).events (counted which (K.taken sink.old) (K.accepted sink.old)))
+            (outside (D.view device.new).events (counted which (K.taken sink.new) (K.accepted sink.new))) (D.view device.new).flight }
         ensures at_crash { OnOk result (IsAtCrash after self.new) }
-        ensures stands { OnOk result (IsAt (D.slot_count device.old) (D.events device.old) (progress_of (D.slot_count device.old) self.old)
-            → IsAt (D.slot_count device.new) (D.events device.new) (progress_of (D.slot_count device.new) self.new)) }
+        ensures stands { OnOk result (IsAt (D.view device.old).slots (D.view device.old).events (progress_of (D.view device.old).slots self.old)
+            → IsAt (D.view device.new).slots (D.view device.new).events (progress_of (D.view device.new).slots self.new)) }
         ensures kind { IfErr result (λ fault. (fault ≡ RunFault.Sink) ⊎ (fault ≡ RunFault.Device)) }
         ensures broken { self.new.broken ≡ self.old.broken }
         ensures fate { self.new.fate ≡ self.old.fate }
-        ensures room { HasRoomBothWays self.new.manager.held (D.spare device.new) }
+        ensures room { HasRoomBothWays self.new.manager.held (D.view device.new).spare }
         ensures setting { setting_of self.new ≡ setting_of self.old }
         ensures commits { self.new.commits ≡ self.old.commits }
-        ensures in_flight { result ≢ Err RunFault.Sink → AreLeft self.new (D.flight device.new) }
-        ensures in_step { result ≢ Err RunFault.Sink → StaysInStep (D.slot_count device.old) self.old self.new (D.events device.old) (D.events device.new) (D.flight device.old) (D.flight device.new) }
-        ensures leaves { Leaves K.taken K.faults sink.old sink.new D.slot_count D.journal D.faults device.old device.new (result ≡ Err RunFault.Sink) (result ≡ Err RunFault.Device) }
+        ensures in_flight { result ≢ Err RunFault.Sink → AreLeft self.new (D.view device.new).flight }
+        ensures in_step { result ≢ Err RunFault.Sink → StaysInStep (D.view device.old).slots self.old self.new (D.view device.old).events (D.view device.new).events (D.view device.old).flight (D.view device.new).flight }
+        ensures leaves { Leaves K.taken K.faults sink.old sink.new (D.view device.old) (D.view device.new) (result ≡ Err RunFault.Sink) (result ≡ Err RunFault.Device) }
     {
         let (manager, count) = (&mut self.manager, &mut self.count);
         make_up_to(manager, &self.watch, count, after, sink, device)
@@ -164,25 +168,21 @@ impl Run {
     // Drops the manager, and has another one go on with the commit by what the device shows, with the words in flight
     // as they are. For want of memory no call may follow.
     fn restart<D: ReadBack>(&mut self, after: u32, device: &mut D) -> Result<(), AllocError>
-        requires slots { self.old.manager.slots ≤ D.slot_count device.old }
+        requires slots { self.old.manager.slots ≤ (D.view device.old).slots }
         requires at_crash { IsAtCrash after self.old }
-        requires stands { IsAt (D.slot_count device.old) (D.events device.old) (progress_of (D.slot_count device.old) self.old) }
-        requires room { HasRoomBothWays self.old.manager.held (D.spare device.old) }
+        requires stands { IsAt (D.view device.old).slots (D.view device.old).events (progress_of (D.view device.old).slots self.old) }
+        requires room { HasRoomBothWays self.old.manager.held (D.view device.old).spare }
         ensures goes_on { OnOk result (IsGoneOnWith after self.old self.new) }
         ensures unfinished { OnOk result ((before : Progress) → (front : List Effect)
-            → IsUnfinished (D.slot_count device.old) before front self.old → IsUnfinished (D.slot_count device.old) before front self.new) }
-        ensures stands { OnOk result (progress_of (D.slot_count device.old) self.new ≡ progress_of (D.slot_count device.old) self.old) }
-        ensures current { OnOk result (AreCurrent (live_now self.old.manager) (D.flight device.old) → AreCurrent (live_now self.new.manager) (D.flight device.new)) }
+            → IsUnfinished (D.view device.old).slots before front self.old → IsUnfinished (D.view device.old).slots before front self.new) }
+        ensures stands { OnOk result (progress_of (D.view device.old).slots self.new ≡ progress_of (D.view device.old).slots self.old) }
+        ensures current { OnOk result (AreCurrent (live_now self.old.manager) (D.view device.old).flight → AreCurrent (live_now self.new.manager) (D.view device.new).flight) }
         ensures wants { OnErr result ((before : Progress) → (front : List Effect)
-            → IsUnfinished (D.slot_count device.old) before front self.old → TakesAtCrash (setting_of self.old) before (commit_act self.old.fate) front) }
+            → IsUnfinished (D.view device.old).slots before front self.old → TakesAtCrash (setting_of self.old) before (commit_act self.old.fate) front) }
         ensures lost { OnErr result (IsLost self.old self.new) }
         ensures setting { setting_of self.new ≡ setting_of self.old }
-        ensures room { HasRoomBothWays self.new.manager.held (D.spare device.new) }
-        ensures journal { D.journal device.new ≡ D.journal device.old }
-        ensures events { D.events device.new ≡ D.events device.old }
-        ensures flight { D.flight device.new ≡ D.flight device.old }
-        ensures slot_count { D.slot_count device.new ≡ D.slot_count device.old }
-        ensures faults { D.faults device.new ≡ D.faults device.old }
+        ensures room { HasRoomBothWays self.new.manager.held (D.view device.new).spare }
+        ensures others { IsSameButSpare (D.view device.old) (D.view device.new) }
     {
         let (slots, mode, placement) = self.manager.setting();
         // The words in flight are current for the ranges that the other manager finds.
@@ -223,26 +223,27 @@ impl Run {
     // Makes and tells the writes that are left of a commit that comes to its end by the manager that it has, counts it,
     // drops its batch, and writes its line.
     fn complete<K: Sink, D: Device>(&mut self, sink: &mut K, device: &mut D) -> Result<(), RunFault>
-        requires slots { self.old.manager.slots ≤ D.slot_count device.old }
-        requires in_flight { AreLeft self.old (D.flight device.old) }
+        requires slots { self.old.manager.slots ≤ (D.view device.old).slots }
+        requires in_flight { AreLeft self.old (D.view device.old).flight }
         requires held { IsSome self.old.manager.held }
         requires no_crash { IfSome (crash_of self.old.fate) (λ after. ¬ (HasMoreThan after self.old)) }
-        requires room { HasRoomBothWays self.old.manager.held (D.spare device.old) }
+        requires room { HasRoomBothWays self.old.manager.held (D.view device.old).spare }
         requires commits { self.old.commits < 2 ^ 24 }
-        ensures resumes { (which : Bool) → (before : Progress) → (front : List Effect) → IsUnfinished (D.slot_count device.old) before front self.old
-            → IsAt (D.slot_count device.old) (D.events device.old) (progress_of (D.slot_count device.old) self.old)
-            → AreCurrent (live_now self.old.manager) (D.flight device.old)
-            → ResumesTo (D.slot_count device.old) before (commit_act self.old.fate) front self.new result
-            (D.events device.old) (D.events device.new) (D.flight device.new) (counted which (K.taken sink.old) (K.accepted sink.old)) (counted which (K.taken sink.new) (K.accepted sink.new)) }
+        ensures resumes { (which : Bool) → (before : Progress) → (front : List Effect) → IsUnfinished (D.view device.old).slots before front self.old
+            → IsAt (D.view device.old).slots (D.view device.old).events (progress_of (D.view device.old).slots self.old)
+            → AreCurrent (live_now self.old.manager) (D.view device.old).flight
+            → ResumesTo (D.view device.old).slots before (commit_act self.old.fate) front self.new result
+            (outside (D.view device.old).events (counted which (K.taken sink.old) (K.accepted sink.old)))
+            (outside (D.view device.new).events (counted which (K.taken sink.new) (K.accepted sink.new))) (D.view device.new).flight }
         ensures kind { IfErr result (λ fault. (fault ≡ RunFault.Sink) ⊎ (fault ≡ RunFault.Device)) }
         ensures idle { OnOk result (self.new.manager.held ≡ None) }
         ensures broken { self.new.broken ≡ self.old.broken }
-        ensures room { HasRoomBothWays self.new.manager.held (D.spare device.new) }
+        ensures room { HasRoomBothWays self.new.manager.held (D.view device.new).spare }
         ensures setting { setting_of self.new ≡ setting_of self.old }
         ensures commits { self.new.commits ≤ self.old.commits + 1 }
-        ensures in_flight { LeavesWords self.new (act_outcome_of result) (D.flight device.old) (D.flight device.new) }
-        ensures in_step { result ≢ Err RunFault.Sink → StaysInStep (D.slot_count device.old) self.old self.new (D.events device.old) (D.events device.new) (D.flight device.old) (D.flight device.new) }
-        ensures leaves { Leaves K.taken K.faults sink.old sink.new D.slot_count D.journal D.faults device.old device.new (result ≡ Err RunFault.Sink) (result ≡ Err RunFault.Device) }
+        ensures in_flight { LeavesWords self.new (act_outcome_of result) (D.view device.old).flight (D.view device.new).flight }
+        ensures in_step { result ≢ Err RunFault.Sink → StaysInStep (D.view device.old).slots self.old self.new (D.view device.old).events (D.view device.new).events (D.view device.old).flight (D.view device.new).flight }
+        ensures leaves { Leaves K.taken K.faults sink.old sink.new (D.view device.old) (D.view device.new) (result ≡ Err RunFault.Sink) (result ≡ Err RunFault.Device) }
     {
         let (manager, count, fate) = (&mut self.manager, &mut self.count, self.fate);
         let ended = match make_writes(manager, &self.watch, count, fate, sink, device) {

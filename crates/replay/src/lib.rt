@@ -75,6 +75,10 @@
 //!   `tcam_cli/specs/Rounds`). An act's answer is one clause too, by cases (`ComesTo`), and `limit` is an equation: the
 //!   text that the answer tells is the fault of an act for which there is no room. The price: a reader opens a record
 //!   to see its facts, and the records take the members of the traits as arguments (`K.taken`).
+//! - **What comes of a commit is said between two moments**: what stands outside of the run is one word (`Outside`: what was
+//!   made of the device since it was blank, and what the sink took), and so is a commit under way (`Snapshot`: its manager,
+//!   how far it has come, and what stands outside). What a call leaves of the device that no word of a run speaks of is
+//!   one clause, by the records of its view (`tcam_device`'s `IsSameButFlight`, `IsSameButSpare`, `HasMade`, `IsUntouched`).
 //! - **A probe's line is said by an undivided look-up** at the moment when its word is searched (`searches_of` in
 //!   `specs/Effects`), so no reader of a report needs to know tables. That the word answers so is proved, from the live
 //!   ranges that tables and slots serve (`ServesNow`) and from the words being current for them, which each step keeps

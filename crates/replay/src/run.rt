@@ -13,11 +13,11 @@ ghost use Rattle.replay.specs.Reports.{refusal_line};
 ghost use Rattle.replay.specs.Run.{Progress, ending};
 ghost use Rattle.replay.specs.Script.{limit_fault};
 ghost use Rattle.report_lines.specs.Outside.{WritesLine};
-ghost use Rattle.replay.specs.Outside.{Leaves};
+ghost use Rattle.replay.specs.Outside.{Leaves, outside};
 ghost use Rattle.replay.specs.Carried.{IsAt};
 ghost use Rattle.replay.specs.Crashing.{memory_wanted};
 ghost use Rattle.replay.specs.Fates.{AnswersBroken, AnswersLost, IsCrash, IsFirst, IsToCrash, commit_act};
-ghost use Rattle.replay.specs.Running.{act_outcome_of, AnswersHeld, AreLeft, ComesTo, IsUntouched, LeavesWords, sink_failed, begun, limit_text, progress_of, setting_of, IsActOf, IsChangeOf, IsToldIn};
+ghost use Rattle.replay.specs.Running.{act_outcome_of, AnswersHeld, AreLeft, ComesTo, NothingIsDone, LeavesWords, sink_failed, begun, limit_text, progress_of, setting_of, IsActOf, IsChangeOf, IsToldIn};
 ghost use Rattle.replay.specs.Unfinished.{IsUnfinished, ResumesTo, StaysInStep, StaysUnfinished};
 
 use crate::fate::Fate;
@@ -166,28 +166,29 @@ impl Run {
         sink: &mut K,
         device: &mut D,
     ) -> Result<(), ActFault>
-        requires slots { self.old.manager.slots ≤ D.slot_count device.old }
-        requires none_in_flight { self.old.manager.held ≡ None → D.flight device.old ≡ [] }
+        requires slots { self.old.manager.slots ≤ (D.view device.old).slots }
+        requires none_in_flight { self.old.manager.held ≡ None → (D.view device.old).flight ≡ [] }
         requires act { IsActOf self.old.family act.now }
         requires told { IsToldIn self.old.json (family_version self.old.family) act.now }
         requires whole { self.old.broken ≡ false }
-        requires stands { IsCrash act.now → IsAt (D.slot_count device.old) (D.events device.old) (progress_of (D.slot_count device.old) self.old) }
+        requires stands { IsCrash act.now → IsAt (D.view device.old).slots (D.view device.old).events (progress_of (D.view device.old).slots self.old) }
         requires commits { self.old.commits < 2 ^ 24 }
-        ensures acts { (which : Bool) → ComesTo (D.slot_count device.old) self.old act.now self.new result
-            (D.events device.old) (D.events device.new) (counted which (K.taken sink.old) (K.accepted sink.old)) (counted which (K.taken sink.new) (K.accepted sink.new)) }
+        ensures acts { (which : Bool) → ComesTo (D.view device.old).slots self.old act.now self.new result
+            (D.view device.old).events (D.view device.new).events (counted which (K.taken sink.old) (K.accepted sink.old)) (counted which (K.taken sink.new) (K.accepted sink.new)) }
         ensures held { AnswersHeld self.old.manager.held result }
         ensures limit { self.old.manager.held ≡ None → limit_text result ≡ limit_fault act.now (length self.old.pending) (length self.old.probes) }
         ensures idle { OnOk result (self.new.manager.held ≡ None) }
-        ensures unfinished { (which : Bool) → result ≡ Err (ActFault.Stopped RunFault.Device) → IsAt (D.slot_count device.old) (D.events device.old) (progress_of (D.slot_count device.old) self.old)
-            → StaysUnfinished (D.slot_count device.old) (progress_of (D.slot_count device.old) self.old) act.now [] self.new
-            (D.events device.old) (D.events device.new) (D.flight device.new) (counted which (K.taken sink.old) (K.accepted sink.old)) (counted which (K.taken sink.new) (K.accepted sink.new)) }
+        ensures unfinished { (which : Bool) → result ≡ Err (ActFault.Stopped RunFault.Device) → IsAt (D.view device.old).slots (D.view device.old).events (progress_of (D.view device.old).slots self.old)
+            → StaysUnfinished (D.view device.old).slots (progress_of (D.view device.old).slots self.old) act.now [] self.new
+            (outside (D.view device.old).events (counted which (K.taken sink.old) (K.accepted sink.old)))
+            (outside (D.view device.new).events (counted which (K.taken sink.new) (K.accepted sink.new))) (D.view device.new).flight }
         ensures broken { AnswersBroken act.now result self.new.broken }
-        ensures room { HasRoomBothWays self.old.manager.held (D.spare device.old) → HasRoomBothWays self.new.manager.held (D.spare device.new) }
+        ensures room { HasRoomBothWays self.old.manager.held (D.view device.old).spare → HasRoomBothWays self.new.manager.held (D.view device.new).spare }
         ensures setting { setting_of self.new ≡ setting_of self.old }
         ensures commits { self.new.commits ≤ self.old.commits + 1 }
-        ensures in_flight { LeavesWords self.new result (D.flight device.old) (D.flight device.new) }
-        ensures in_step { StaysInStep (D.slot_count device.old) self.old self.new (D.events device.old) (D.events device.new) (D.flight device.old) (D.flight device.new) }
-        ensures leaves { Leaves K.taken K.faults sink.old sink.new D.slot_count D.journal D.faults device.old device.new (result ≡ Err (ActFault.Stopped RunFault.Sink)) (result ≡ Err (ActFault.Stopped RunFault.Device)) }
+        ensures in_flight { LeavesWords self.new result (D.view device.old).flight (D.view device.new).flight }
+        ensures in_step { StaysInStep (D.view device.old).slots self.old self.new (D.view device.old).events (D.view device.new).events (D.view device.old).flight (D.view device.new).flight }
+        ensures leaves { Leaves K.taken K.faults sink.old sink.new (D.view device.old) (D.view device.new) (result ≡ Err (ActFault.Stopped RunFault.Sink)) (result ≡ Err (ActFault.Stopped RunFault.Device)) }
     {
         if let Some(left) = self.manager.left() {
             return Err(ActFault::Held { left });
@@ -211,28 +212,29 @@ impl Run {
         sink: &mut K,
         device: &mut D,
     ) -> Result<(), RunFault>
-        requires slots { self.old.manager.slots ≤ D.slot_count device.old }
-        requires in_flight { AreLeft self.old (D.flight device.old) }
+        requires slots { self.old.manager.slots ≤ (D.view device.old).slots }
+        requires in_flight { AreLeft self.old (D.view device.old).flight }
         requires whole { self.old.broken ≡ false }
-        requires room { HasRoomBothWays self.old.manager.held (D.spare device.old) }
-        requires stands { IsToCrash self.old.fate → IsAt (D.slot_count device.old) (D.events device.old) (progress_of (D.slot_count device.old) self.old) }
+        requires room { HasRoomBothWays self.old.manager.held (D.view device.old).spare }
+        requires stands { IsToCrash self.old.fate → IsAt (D.view device.old).slots (D.view device.old).events (progress_of (D.view device.old).slots self.old) }
         requires commits { self.old.commits < 2 ^ 24 }
-        ensures resumes { (which : Bool) → (before : Progress) → (front : List Effect) → IsUnfinished (D.slot_count device.old) before front self.old
-            → IsAt (D.slot_count device.old) (D.events device.old) (progress_of (D.slot_count device.old) self.old)
-            → AreCurrent (live_now self.old.manager) (D.flight device.old)
-            → ResumesTo (D.slot_count device.old) before (commit_act self.old.fate) front self.new result
-            (D.events device.old) (D.events device.new) (D.flight device.new) (counted which (K.taken sink.old) (K.accepted sink.old)) (counted which (K.taken sink.new) (K.accepted sink.new)) }
-        ensures nothing { (which : Bool) → self.old.manager.held ≡ None → (result ≡ Ok tt) × IsUntouched self.old self.new
-            (D.events device.old) (D.events device.new) (counted which (K.taken sink.old) (K.accepted sink.old)) (counted which (K.taken sink.new) (K.accepted sink.new)) }
+        ensures resumes { (which : Bool) → (before : Progress) → (front : List Effect) → IsUnfinished (D.view device.old).slots before front self.old
+            → IsAt (D.view device.old).slots (D.view device.old).events (progress_of (D.view device.old).slots self.old)
+            → AreCurrent (live_now self.old.manager) (D.view device.old).flight
+            → ResumesTo (D.view device.old).slots before (commit_act self.old.fate) front self.new result
+            (outside (D.view device.old).events (counted which (K.taken sink.old) (K.accepted sink.old)))
+            (outside (D.view device.new).events (counted which (K.taken sink.new) (K.accepted sink.new))) (D.view device.new).flight }
+        ensures nothing { (which : Bool) → self.old.manager.held ≡ None → (result ≡ Ok tt) × NothingIsDone self.old self.new
+            (D.view device.old).events (D.view device.new).events (counted which (K.taken sink.old) (K.accepted sink.old)) (counted which (K.taken sink.new) (K.accepted sink.new)) }
         ensures kind { IfErr result (λ fault. (fault ≡ RunFault.Sink) ⊎ ((fault ≡ RunFault.Device) ⊎ ((fault ≡ RunFault.Memory) × IsToCrash self.old.fate))) }
         ensures idle { OnOk result (self.new.manager.held ≡ None) }
         ensures broken { self.new.broken ≡ (memory_wanted result || sink_failed (act_outcome_of result)) }
-        ensures room { HasRoomBothWays self.new.manager.held (D.spare device.new) }
+        ensures room { HasRoomBothWays self.new.manager.held (D.view device.new).spare }
         ensures setting { setting_of self.new ≡ setting_of self.old }
         ensures commits { self.new.commits ≤ self.old.commits + 1 }
-        ensures in_flight { LeavesWords self.new (act_outcome_of result) (D.flight device.old) (D.flight device.new) }
-        ensures in_step { StaysInStep (D.slot_count device.old) self.old self.new (D.events device.old) (D.events device.new) (D.flight device.old) (D.flight device.new) }
-        ensures leaves { Leaves K.taken K.faults sink.old sink.new D.slot_count D.journal D.faults device.old device.new (result ≡ Err RunFault.Sink) (result ≡ Err RunFault.Device) }
+        ensures in_flight { LeavesWords self.new (act_outcome_of result) (D.view device.old).flight (D.view device.new).flight }
+        ensures in_step { StaysInStep (D.view device.old).slots self.old self.new (D.view device.old).events (D.view device.new).events (D.view device.old).flight (D.view device.new).flight }
+        ensures leaves { Leaves K.taken K.faults sink.old sink.new (D.view device.old) (D.view device.new) (result ≡ Err RunFault.Sink) (result ≡ Err RunFault.Device) }
     {
         if self.manager.left().is_none() {
             return Ok(());
@@ -257,29 +259,30 @@ impl Run {
         sink: &mut K,
         device: &mut D,
     ) -> Result<(), ActFault>
-        requires slots { self.old.manager.slots ≤ D.slot_count device.old }
-        requires none_in_flight { D.flight device.old ≡ [] }
+        requires slots { self.old.manager.slots ≤ (D.view device.old).slots }
+        requires none_in_flight { (D.view device.old).flight ≡ [] }
         requires act { IsActOf self.old.family act.now }
         requires told { IsToldIn self.old.json (family_version self.old.family) act.now }
         requires idle { self.old.manager.held ≡ None }
         requires whole { self.old.broken ≡ false }
-        requires stands { IsCrash act.now → IsAt (D.slot_count device.old) (D.events device.old) (progress_of (D.slot_count device.old) self.old) }
+        requires stands { IsCrash act.now → IsAt (D.view device.old).slots (D.view device.old).events (progress_of (D.view device.old).slots self.old) }
         requires commits { self.old.commits < 2 ^ 24 }
-        ensures acts { (which : Bool) → ComesTo (D.slot_count device.old) self.old act.now self.new result
-            (D.events device.old) (D.events device.new) (counted which (K.taken sink.old) (K.accepted sink.old)) (counted which (K.taken sink.new) (K.accepted sink.new)) }
+        ensures acts { (which : Bool) → ComesTo (D.view device.old).slots self.old act.now self.new result
+            (D.view device.old).events (D.view device.new).events (counted which (K.taken sink.old) (K.accepted sink.old)) (counted which (K.taken sink.new) (K.accepted sink.new)) }
         ensures taken { AnswersHeld None result }
         ensures limit { limit_text result ≡ limit_fault act.now (length self.old.pending) (length self.old.probes) }
         ensures idle { OnOk result (self.new.manager.held ≡ None) }
-        ensures unfinished { (which : Bool) → result ≡ Err (ActFault.Stopped RunFault.Device) → IsAt (D.slot_count device.old) (D.events device.old) (progress_of (D.slot_count device.old) self.old)
-            → StaysUnfinished (D.slot_count device.old) (progress_of (D.slot_count device.old) self.old) act.now [] self.new
-            (D.events device.old) (D.events device.new) (D.flight device.new) (counted which (K.taken sink.old) (K.accepted sink.old)) (counted which (K.taken sink.new) (K.accepted sink.new)) }
+        ensures unfinished { (which : Bool) → result ≡ Err (ActFault.Stopped RunFault.Device) → IsAt (D.view device.old).slots (D.view device.old).events (progress_of (D.view device.old).slots self.old)
+            → StaysUnfinished (D.view device.old).slots (progress_of (D.view device.old).slots self.old) act.now [] self.new
+            (outside (D.view device.old).events (counted which (K.taken sink.old) (K.accepted sink.old)))
+            (outside (D.view device.new).events (counted which (K.taken sink.new) (K.accepted sink.new))) (D.view device.new).flight }
         ensures broken { AnswersLost act.now result self.new.broken }
-        ensures room { HasRoomBothWays self.new.manager.held (D.spare device.new) }
+        ensures room { HasRoomBothWays self.new.manager.held (D.view device.new).spare }
         ensures setting { setting_of self.new ≡ setting_of self.old }
         ensures commits { self.new.commits ≤ self.old.commits + 1 }
-        ensures in_flight { LeavesWords self.new result (D.flight device.old) (D.flight device.new) }
-        ensures in_step { result ≢ Err (ActFault.Stopped RunFault.Sink) → StaysInStep (D.slot_count device.old) self.old self.new (D.events device.old) (D.events device.new) (D.flight device.old) (D.flight device.new) }
-        ensures leaves { Leaves K.taken K.faults sink.old sink.new D.slot_count D.journal D.faults device.old device.new (result ≡ Err (ActFault.Stopped RunFault.Sink)) (result ≡ Err (ActFault.Stopped RunFault.Device)) }
+        ensures in_flight { LeavesWords self.new result (D.view device.old).flight (D.view device.new).flight }
+        ensures in_step { result ≢ Err (ActFault.Stopped RunFault.Sink) → StaysInStep (D.view device.old).slots self.old self.new (D.view device.old).events (D.view device.new).events (D.view device.old).flight (D.view device.new).flight }
+        ensures leaves { Leaves K.taken K.faults sink.old sink.new (D.view device.old) (D.view device.new) (result ≡ Err (ActFault.Stopped RunFault.Sink)) (result ≡ Err (ActFault.Stopped RunFault.Device)) }
     {
         match *act {
             Act::Command(command) => self.push(command),
@@ -329,10 +332,10 @@ impl Run {
         sink: &mut K,
         device: &D,
     ) -> Result<(), ActFault>
-        requires slots { self.now.manager.slots ≤ D.slot_count device.now }
+        requires slots { self.now.manager.slots ≤ (D.view device.now).slots }
         requires idle { self.now.manager.held ≡ None }
-        ensures acts { (which : Bool) → ComesTo (D.slot_count device.now) self.now (Act.Packet key.now) self.now result
-            (D.events device.now) (D.events device.now) (counted which (K.taken sink.old) (K.accepted sink.old)) (counted which (K.taken sink.new) (K.accepted sink.new)) }
+        ensures acts { (which : Bool) → ComesTo (D.view device.now).slots self.now (Act.Packet key.now) self.now result
+            (D.view device.now).events (D.view device.now).events (counted which (K.taken sink.old) (K.accepted sink.old)) (counted which (K.taken sink.new) (K.accepted sink.new)) }
         ensures kind { IfErr result (λ fault. fault ≡ ActFault.Stopped RunFault.Sink) }
         ensures told { IsSome (K.taken sink.old) → IsSome (K.taken sink.new) }
         ensures cause { HasCause (K.faults sink.old) (K.faults sink.new) result }
@@ -354,29 +357,30 @@ impl Run {
         sink: &mut K,
         device: &mut D,
     ) -> Result<(), ActFault>
-        requires slots { self.old.manager.slots ≤ D.slot_count device.old }
-        requires none_in_flight { D.flight device.old ≡ [] }
+        requires slots { self.old.manager.slots ≤ (D.view device.old).slots }
+        requires none_in_flight { (D.view device.old).flight ≡ [] }
         requires idle { self.old.manager.held ≡ None }
         requires first { IsFirst fate }
         requires told { self.old.json ≡ true → fate ≡ Fate.ToTheEnd }
         requires whole { self.old.broken ≡ false }
-        requires stands { IsToCrash fate → IsAt (D.slot_count device.old) (D.events device.old) (progress_of (D.slot_count device.old) self.old) }
+        requires stands { IsToCrash fate → IsAt (D.view device.old).slots (D.view device.old).events (progress_of (D.view device.old).slots self.old) }
         requires commits { self.old.commits < 2 ^ 24 }
-        ensures acts { (which : Bool) → ComesTo (D.slot_count device.old) self.old (commit_act fate) self.new result
-            (D.events device.old) (D.events device.new) (counted which (K.taken sink.old) (K.accepted sink.old)) (counted which (K.taken sink.new) (K.accepted sink.new)) }
+        ensures acts { (which : Bool) → ComesTo (D.view device.old).slots self.old (commit_act fate) self.new result
+            (D.view device.old).events (D.view device.new).events (counted which (K.taken sink.old) (K.accepted sink.old)) (counted which (K.taken sink.new) (K.accepted sink.new)) }
         ensures taken { AnswersHeld None result }
         ensures limit { limit_text result ≡ None }
         ensures idle { OnOk result (self.new.manager.held ≡ None) }
-        ensures unfinished { (which : Bool) → result ≡ Err (ActFault.Stopped RunFault.Device) → IsAt (D.slot_count device.old) (D.events device.old) (progress_of (D.slot_count device.old) self.old)
-            → StaysUnfinished (D.slot_count device.old) (progress_of (D.slot_count device.old) self.old) (commit_act fate) [] self.new
-            (D.events device.old) (D.events device.new) (D.flight device.new) (counted which (K.taken sink.old) (K.accepted sink.old)) (counted which (K.taken sink.new) (K.accepted sink.new)) }
+        ensures unfinished { (which : Bool) → result ≡ Err (ActFault.Stopped RunFault.Device) → IsAt (D.view device.old).slots (D.view device.old).events (progress_of (D.view device.old).slots self.old)
+            → StaysUnfinished (D.view device.old).slots (progress_of (D.view device.old).slots self.old) (commit_act fate) [] self.new
+            (outside (D.view device.old).events (counted which (K.taken sink.old) (K.accepted sink.old)))
+            (outside (D.view device.new).events (counted which (K.taken sink.new) (K.accepted sink.new))) (D.view device.new).flight }
         ensures broken { AnswersLost (commit_act fate) result self.new.broken }
-        ensures room { HasRoomBothWays self.new.manager.held (D.spare device.new) }
+        ensures room { HasRoomBothWays self.new.manager.held (D.view device.new).spare }
         ensures setting { setting_of self.new ≡ setting_of self.old }
         ensures commits { self.new.commits ≤ self.old.commits + 1 }
-        ensures in_flight { LeavesWords self.new result (D.flight device.old) (D.flight device.new) }
-        ensures in_step { result ≢ Err (ActFault.Stopped RunFault.Sink) → StaysInStep (D.slot_count device.old) self.old self.new (D.events device.old) (D.events device.new) (D.flight device.old) (D.flight device.new) }
-        ensures leaves { Leaves K.taken K.faults sink.old sink.new D.slot_count D.journal D.faults device.old device.new (result ≡ Err (ActFault.Stopped RunFault.Sink)) (result ≡ Err (ActFault.Stopped RunFault.Device)) }
+        ensures in_flight { LeavesWords self.new result (D.view device.old).flight (D.view device.new).flight }
+        ensures in_step { result ≢ Err (ActFault.Stopped RunFault.Sink) → StaysInStep (D.view device.old).slots self.old self.new (D.view device.old).events (D.view device.new).events (D.view device.old).flight (D.view device.new).flight }
+        ensures leaves { Leaves K.taken K.faults sink.old sink.new (D.view device.old) (D.view device.new) (result ≡ Err (ActFault.Stopped RunFault.Sink)) (result ≡ Err (ActFault.Stopped RunFault.Device)) }
     {
         match self.manager.prepare(&self.pending, device) {
             Ok(_) => {

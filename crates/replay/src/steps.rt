@@ -4,18 +4,18 @@ ghost use Rattle.std.specs.Prelude.{⊤, ℕ, ◌≡◌, ◌≢◌, ◌+◌, ◌
 ghost use Rattle.std.specs.List.{AllByRecursion};
 ghost use Rattle.script_lines.specs.Given.{counted};
 ghost use Rattle.rule_model.specs.Key.{IsKey};
-ghost use Rattle.tcam_device.specs.State.{replay};
 ghost use Rattle.tcam_device.specs.Flight.{writes_in};
 ghost use Rattle.tcam_device.specs.declared.Action.TheVariants as Action;
+ghost use Rattle.tcam_device.specs.View.{HasMade, IsSameButFlight, IsUntouched, device_state, journal};
 ghost use Rattle.batch_order.specs.CarriedOut.{HasRoomBothWays, IsTried};
 ghost use Rattle.batch_order.specs.Managed.{IsOn, live_now};
 ghost use Rattle.batch_order.specs.Steps.{KeepsCurrent, ServesNow, Steps, actions_of, awaits_drain, next_of};
 ghost use Rattle.replay.specs.Effects.{drain_told, probes_told, write_told};
 ghost use Rattle.replay.specs.InFlight.{AreOf, IsSeen, flight_left, found_after};
-ghost use Rattle.replay.specs.Outside.{Leaves, WritesLines};
+ghost use Rattle.replay.specs.Outside.{Leaves, WritesLines, outside};
 ghost use Rattle.replay.specs.Fates.{IsWithinCrash, crash_due, most_of};
 ghost use Rattle.replay.specs.Pausing.{MakesUntil, MakesUpTo};
-ghost use Rattle.replay.specs.Running.{Makes, MayTurnBack, TurnsBackAt, actions_left, trial_rest};
+ghost use Rattle.replay.specs.Running.{Makes, MayTurnBack, TurnsBackAt, actions_left, trial_rest, snapshot};
 
 use crate::fate::Fate;
 use crate::watch::{Count, Watch};
@@ -45,22 +45,22 @@ pub(crate) fn make_writes<K: Sink, D: Device>(
     sink: &mut K,
     device: &mut D,
 ) -> Result<Ended, RunFault>
-    requires slots { manager.old.slots ≤ D.slot_count device.old }
-    requires in_flight { AreOf (probes_told watch.now.json watch.now.probes) count.old.waiting (D.flight device.old) }
+    requires slots { manager.old.slots ≤ (D.view device.old).slots }
+    requires in_flight { AreOf (probes_told watch.now.json watch.now.probes) count.old.waiting (D.view device.old).flight }
     requires waiting { count.old.waiting ≤ watch.now.depth }
     requires held { IsSome manager.old.held }
     requires may_turn { MayTurnBack (most_of fate) manager.old.held }
-    requires room { HasRoomBothWays manager.old.held (D.spare device.old) }
+    requires room { HasRoomBothWays manager.old.held (D.view device.old).spare }
     requires few { IfSome manager.old.held (λ held. count.old.told + length (writes_in (actions_left (trial_rest (most_of fate) count.old.told) manager.old.state held)) ≤ 2 ^ 40) }
-    ensures makes { (which : Bool) → Makes (IsSeen (D.slot_count device.old) (D.events device.old) (D.flight device.old) manager.old)
-        (most_of fate) manager.old manager.new watch.now (D.slot_count device.old) count.old count.new result
-        (D.events device.old) (D.events device.new) (counted which (K.taken sink.old) (K.accepted sink.old)) (counted which (K.taken sink.new) (K.accepted sink.new)) }
-    ensures in_flight { result ≢ Err RunFault.Sink → AreOf (probes_told watch.now.json watch.now.probes) count.new.waiting (D.flight device.new) }
-    ensures seen { result ≢ Err RunFault.Sink → IsSeen (D.slot_count device.old) (D.events device.old) (D.flight device.old) manager.old
-        → IsSeen (D.slot_count device.new) (D.events device.new) (D.flight device.new) manager.new }
+    ensures makes { (which : Bool) → Makes (IsSeen (D.view device.old).slots (D.view device.old).events (D.view device.old).flight manager.old) (most_of fate) watch.now (D.view device.old).slots
+        (snapshot manager.old count.old (outside (D.view device.old).events (counted which (K.taken sink.old) (K.accepted sink.old))))
+        (snapshot manager.new count.new (outside (D.view device.new).events (counted which (K.taken sink.new) (K.accepted sink.new)))) result }
+    ensures in_flight { result ≢ Err RunFault.Sink → AreOf (probes_told watch.now.json watch.now.probes) count.new.waiting (D.view device.new).flight }
+    ensures seen { result ≢ Err RunFault.Sink → IsSeen (D.view device.old).slots (D.view device.old).events (D.view device.old).flight manager.old
+        → IsSeen (D.view device.new).slots (D.view device.new).events (D.view device.new).flight manager.new }
     ensures serves { OnOk result (ServesNow manager.new) }
-    ensures room { HasRoomBothWays manager.new.held (D.spare device.new) }
-    ensures leaves { Leaves K.taken K.faults sink.old sink.new D.slot_count D.journal D.faults device.old device.new (result ≡ Err RunFault.Sink) (result ≡ Err RunFault.Device) }
+    ensures room { HasRoomBothWays manager.new.held (D.view device.new).spare }
+    ensures leaves { Leaves K.taken K.faults sink.old sink.new (D.view device.old) (D.view device.new) (result ≡ Err RunFault.Sink) (result ≡ Err RunFault.Device) }
 {
     match make_until(manager, watch, count, fate.most(), None, sink, device) {
         Ok(Some(ended)) => Ok(ended),
@@ -80,23 +80,23 @@ pub(crate) fn make_up_to<K: Sink, D: Device>(
     sink: &mut K,
     device: &mut D,
 ) -> Result<(), RunFault>
-    requires slots { manager.old.slots ≤ D.slot_count device.old }
-    requires in_flight { AreOf (probes_told watch.now.json watch.now.probes) count.old.waiting (D.flight device.old) }
+    requires slots { manager.old.slots ≤ (D.view device.old).slots }
+    requires in_flight { AreOf (probes_told watch.now.json watch.now.probes) count.old.waiting (D.view device.old).flight }
     requires waiting { count.old.waiting ≤ watch.now.depth }
     requires forward { IfSome manager.old.held (λ held. held.turned ≡ None) }
     requires held { IsSome manager.old.held }
-    requires room { HasRoomBothWays manager.old.held (D.spare device.old) }
+    requires room { HasRoomBothWays manager.old.held (D.view device.old).spare }
     requires told { count.old.told ≤ after }
     requires more { IfSome manager.old.held (λ held. after < count.old.told + length (writes_in held.actions)) }
     requires few { IfSome manager.old.held (λ held. count.old.told + length (writes_in held.actions) ≤ 2 ^ 40) }
-    ensures makes { (which : Bool) → MakesUpTo (IsSeen (D.slot_count device.old) (D.events device.old) (D.flight device.old) manager.old)
-        after manager.old manager.new watch.now (D.slot_count device.old) count.old count.new result
-        (D.events device.old) (D.events device.new) (counted which (K.taken sink.old) (K.accepted sink.old)) (counted which (K.taken sink.new) (K.accepted sink.new)) }
-    ensures in_flight { result ≢ Err RunFault.Sink → AreOf (probes_told watch.now.json watch.now.probes) count.new.waiting (D.flight device.new) }
-    ensures seen { result ≢ Err RunFault.Sink → IsSeen (D.slot_count device.old) (D.events device.old) (D.flight device.old) manager.old
-        → IsSeen (D.slot_count device.new) (D.events device.new) (D.flight device.new) manager.new }
-    ensures room { HasRoomBothWays manager.new.held (D.spare device.new) }
-    ensures leaves { Leaves K.taken K.faults sink.old sink.new D.slot_count D.journal D.faults device.old device.new (result ≡ Err RunFault.Sink) (result ≡ Err RunFault.Device) }
+    ensures makes { (which : Bool) → MakesUpTo (IsSeen (D.view device.old).slots (D.view device.old).events (D.view device.old).flight manager.old) after watch.now (D.view device.old).slots
+        (snapshot manager.old count.old (outside (D.view device.old).events (counted which (K.taken sink.old) (K.accepted sink.old))))
+        (snapshot manager.new count.new (outside (D.view device.new).events (counted which (K.taken sink.new) (K.accepted sink.new)))) result }
+    ensures in_flight { result ≢ Err RunFault.Sink → AreOf (probes_told watch.now.json watch.now.probes) count.new.waiting (D.view device.new).flight }
+    ensures seen { result ≢ Err RunFault.Sink → IsSeen (D.view device.old).slots (D.view device.old).events (D.view device.old).flight manager.old
+        → IsSeen (D.view device.new).slots (D.view device.new).events (D.view device.new).flight manager.new }
+    ensures room { HasRoomBothWays manager.new.held (D.view device.new).spare }
+    ensures leaves { Leaves K.taken K.faults sink.old sink.new (D.view device.old) (D.view device.new) (result ≡ Err RunFault.Sink) (result ≡ Err RunFault.Device) }
 {
     match make_until(manager, watch, count, None, Some(after), sink, device) {
         Ok(None) => Ok(()),
@@ -117,24 +117,24 @@ fn make_until<K: Sink, D: Device>(
     sink: &mut K,
     device: &mut D,
 ) -> Result<Option<Ended>, RunFault>
-    requires slots { manager.old.slots ≤ D.slot_count device.old }
-    requires in_flight { AreOf (probes_told watch.now.json watch.now.probes) count.old.waiting (D.flight device.old) }
+    requires slots { manager.old.slots ≤ (D.view device.old).slots }
+    requires in_flight { AreOf (probes_told watch.now.json watch.now.probes) count.old.waiting (D.view device.old).flight }
     requires waiting { count.old.waiting ≤ watch.now.depth }
     requires held { IsSome manager.old.held }
     requires may_turn { MayTurnBack most manager.old.held }
     requires forward { IsSome stop → (most ≡ None) × IfSome manager.old.held (λ held. held.turned ≡ None) }
     requires told { IsWithinCrash stop count.old.told }
-    requires room { HasRoomBothWays manager.old.held (D.spare device.old) }
+    requires room { HasRoomBothWays manager.old.held (D.view device.old).spare }
     requires few { IfSome manager.old.held (λ held. count.old.told + length (writes_in (actions_left (trial_rest most count.old.told) manager.old.state held)) ≤ 2 ^ 40) }
-    ensures makes { (which : Bool) → MakesUntil (IsSeen (D.slot_count device.old) (D.events device.old) (D.flight device.old) manager.old)
-        most stop manager.old manager.new watch.now (D.slot_count device.old) count.old count.new result
-        (D.events device.old) (D.events device.new) (counted which (K.taken sink.old) (K.accepted sink.old)) (counted which (K.taken sink.new) (K.accepted sink.new)) }
-    ensures in_flight { result ≢ Err RunFault.Sink → AreOf (probes_told watch.now.json watch.now.probes) count.new.waiting (D.flight device.new) }
-    ensures seen { result ≢ Err RunFault.Sink → IsSeen (D.slot_count device.old) (D.events device.old) (D.flight device.old) manager.old
-        → IsSeen (D.slot_count device.new) (D.events device.new) (D.flight device.new) manager.new }
+    ensures makes { (which : Bool) → MakesUntil (IsSeen (D.view device.old).slots (D.view device.old).events (D.view device.old).flight manager.old) most stop watch.now (D.view device.old).slots
+        (snapshot manager.old count.old (outside (D.view device.old).events (counted which (K.taken sink.old) (K.accepted sink.old))))
+        (snapshot manager.new count.new (outside (D.view device.new).events (counted which (K.taken sink.new) (K.accepted sink.new)))) result }
+    ensures in_flight { result ≢ Err RunFault.Sink → AreOf (probes_told watch.now.json watch.now.probes) count.new.waiting (D.view device.new).flight }
+    ensures seen { result ≢ Err RunFault.Sink → IsSeen (D.view device.old).slots (D.view device.old).events (D.view device.old).flight manager.old
+        → IsSeen (D.view device.new).slots (D.view device.new).events (D.view device.new).flight manager.new }
     ensures serves { IfOk result (λ ended. IsSome ended → ServesNow manager.new) }
-    ensures room { HasRoomBothWays manager.new.held (D.spare device.new) }
-    ensures leaves { Leaves K.taken K.faults sink.old sink.new D.slot_count D.journal D.faults device.old device.new (result ≡ Err RunFault.Sink) (result ≡ Err RunFault.Device) }
+    ensures room { HasRoomBothWays manager.new.held (D.view device.new).spare }
+    ensures leaves { Leaves K.taken K.faults sink.old sink.new (D.view device.old) (D.view device.new) (result ≡ Err RunFault.Sink) (result ≡ Err RunFault.Device) }
 {
     'making: loop {
         if stops_here(manager, stop, count.told) {
@@ -211,20 +211,16 @@ fn tell_write<K: Sink, D: Device>(
     sink: &mut K,
     device: &mut D,
 ) -> Result<(), Failed>
-    requires words { AreOf (probes_told watch.now.json watch.now.probes) count.old.waiting (D.flight device.old) }
+    requires words { AreOf (probes_told watch.now.json watch.now.probes) count.old.waiting (D.view device.old).flight }
     requires few { count.old.waiting ≤ watch.now.depth }
     requires told { count.old.told < 2 ^ 40 }
     ensures told { count.new.told ≡ count.old.told + 1 }
     ensures waiting { count.new.waiting ≡ min (count.old.waiting + 1) watch.now.depth }
     ensures lines { WritesLines K.taken K.accepted K.faults sink.old sink.new
-        (write_told watch.now.json watch.now.trace watch.now.family (count.old.told + 1) write.now ++ found_after watch.now.family (probes_told watch.now.json watch.now.probes) watch.now.depth (count.old.told + 1) count.old.waiting (replay (D.slot_count device.old) (D.journal device.old)) (D.flight device.old)) result }
-    ensures flight { OnOk result (D.flight device.new ≡ flight_left (probes_told watch.now.json watch.now.probes) watch.now.depth count.old.waiting (replay (D.slot_count device.old) (D.journal device.old)) (D.flight device.old)) }
+        (write_told watch.now.json watch.now.trace watch.now.family (count.old.told + 1) write.now ++ found_after watch.now.family (probes_told watch.now.json watch.now.probes) watch.now.depth (count.old.told + 1) count.old.waiting (device_state (D.view device.old)) (D.view device.old).flight) result }
+    ensures flight { OnOk result ((D.view device.new).flight ≡ flight_left (probes_told watch.now.json watch.now.probes) watch.now.depth count.old.waiting (device_state (D.view device.old)) (D.view device.old).flight) }
     ensures keys { AllByRecursion IsKey (probes_told watch.now.json watch.now.probes) }
-    ensures journal { D.journal device.new ≡ D.journal device.old }
-    ensures events { D.events device.new ≡ D.events device.old }
-    ensures spare { D.spare device.new ≡ D.spare device.old }
-    ensures slots { D.slot_count device.new ≡ D.slot_count device.old }
-    ensures faults { D.faults device.new ≡ D.faults device.old }
+    ensures others { IsSameButFlight (D.view device.old) (D.view device.new) }
 {
     let waiting = count.waiting;
     count.told += 1;
@@ -246,19 +242,15 @@ fn tell_drain<K: Sink>(watch: &Watch, count: &mut Count, sink: &mut K) -> Result
 
 // Makes the drain that is next, with no word in flight.
 fn pass_drain<D: Writable>(manager: &mut Manager, device: &mut D)
-    requires slots { manager.old.slots ≤ D.slot_count device.old }
+    requires slots { manager.old.slots ≤ (D.view device.old).slots }
     requires drain { IsTrue (awaits_drain manager.old.held) }
-    requires none_in_flight { D.flight device.old ≡ [] }
-    requires room { HasRoomBothWays manager.old.held (D.spare device.old) }
+    requires none_in_flight { (D.view device.old).flight ≡ [] }
+    requires room { HasRoomBothWays manager.old.held (D.view device.old).spare }
     ensures stepped { Steps manager.old 0 manager.old.held Step.Drained manager.new }
-    ensures events { D.events device.new ≡ D.events device.old ++ Action.Drained ∷ [] }
-    ensures journal { D.journal device.new ≡ D.journal device.old }
-    ensures spare { D.spare device.new + 1 ≡ D.spare device.old }
-    ensures room { HasRoomBothWays manager.new.held (D.spare device.new) }
-    ensures flight { D.flight device.new ≡ [] }
-    ensures slot_count { D.slot_count device.new ≡ D.slot_count device.old }
-    ensures faults { D.faults device.new ≡ D.faults device.old }
-    ensures stays_on { IsOn (D.slot_count device.old) (D.journal device.old) manager.old → IsOn (D.slot_count device.new) (D.journal device.new) manager.new }
+    ensures made { HasMade (Action.Drained ∷ []) (D.view device.old) (D.view device.new) }
+    ensures room { HasRoomBothWays manager.new.held (D.view device.new).spare }
+    ensures faults { (D.view device.new).faults ≡ (D.view device.old).faults }
+    ensures stays_on { IsOn (D.view device.old).slots (journal (D.view device.old)) manager.old → IsOn (D.view device.new).slots (journal (D.view device.new)) manager.new }
 {
     match manager.step(device) {
         Ok(_) => {}
@@ -269,26 +261,19 @@ fn pass_drain<D: Writable>(manager: &mut Manager, device: &mut D)
 // Takes the next step of the commit under way. A write that fails is tried again at once, `TRIES` times in all; an Err
 // says that each of them failed, and nothing has changed then.
 fn step_tried<D: Writable>(manager: &mut Manager, device: &mut D) -> Result<Step, DeviceFault>
-    requires slots { manager.old.slots ≤ D.slot_count device.old }
-    requires room { HasRoomBothWays manager.old.held (D.spare device.old) }
-    ensures stepped { IfOk result (λ step. Steps manager.old (length (D.flight device.old)) manager.old.held step manager.new) }
+    requires slots { manager.old.slots ≤ (D.view device.old).slots }
+    requires room { HasRoomBothWays manager.old.held (D.view device.old).spare }
+    ensures stepped { IfOk result (λ step. Steps manager.old (length (D.view device.old).flight) manager.old.held step manager.new) }
     ensures keeps { IfOk result (λ step. KeepsCurrent manager.old step manager.new) }
     ensures serves { OnOk result (ServesNow manager.new) }
-    ensures same_slots { manager.new.slots ≡ manager.old.slots }
-    ensures stays_on { IsOn (D.slot_count device.old) (D.journal device.old) manager.old → IsOn (D.slot_count device.new) (D.journal device.new) manager.new }
-    ensures journal { IfOk result (λ step. D.journal device.new ≡ D.journal device.old ++ writes_in (actions_of step)) }
-    ensures events { IfOk result (λ step. D.events device.new ≡ D.events device.old ++ actions_of step) }
-    ensures spare { IfOk result (λ step. D.spare device.new + length (actions_of step) ≡ D.spare device.old) }
-    ensures room { HasRoomBothWays manager.new.held (D.spare device.new) }
+    ensures stays_on { IsOn (D.view device.old).slots (journal (D.view device.old)) manager.old → IsOn (D.view device.new).slots (journal (D.view device.new)) manager.new }
+    ensures made { IfOk result (λ step. HasMade (actions_of step) (D.view device.old) (D.view device.new)) }
+    ensures room { HasRoomBothWays manager.new.held (D.view device.new).spare }
     ensures failed { OnErr result (manager.new ≡ manager.old) }
-    ensures journal_err { OnErr result (D.journal device.new ≡ D.journal device.old) }
-    ensures events_err { OnErr result (D.events device.new ≡ D.events device.old) }
-    ensures spare_err { OnErr result (D.spare device.new ≡ D.spare device.old) }
+    ensures unmade { OnErr result (IsUntouched (D.view device.old) (D.view device.new)) }
     ensures due { OnErr result (IsSome (next_of manager.old.held)) }
-    ensures flight { D.flight device.new ≡ D.flight device.old }
-    ensures slot_count { D.slot_count device.new ≡ D.slot_count device.old }
-    ensures tried { IfOk result (λ step. IsTried 4 (length (writes_in (actions_of step))) ⊥ (D.faults device.old) (D.faults device.new)) }
-    ensures tried_err { OnErr result (IsTried 4 0 ⊤ (D.faults device.old) (D.faults device.new)) }
+    ensures tried { IfOk result (λ step. IsTried 4 (length (writes_in (actions_of step))) ⊥ (D.view device.old).faults (D.view device.new).faults) }
+    ensures tried_err { OnErr result (IsTried 4 0 ⊤ (D.view device.old).faults (D.view device.new).faults) }
 {
     let mut failures = 0;
     'trying: loop {

@@ -3,10 +3,10 @@
 //! A probe is a look-up of two events: after each write the words of all probes are put into flight, and they are
 //! searched a depth of writes later. Behind the search a line tells what it answered.
 
-ghost use Rattle.std.specs.Prelude.{◌≡◌, ◌≢◌, ◌↔◌, ◌==◌, ◌+◌, ◌≤◌, ◌++◌, ◌∷◌, [], true, IsTrue, IfOk, OnOk, length, take, drop, min};
+ghost use Rattle.std.specs.Prelude.{◌≡◌, ◌≢◌, ◌↔◌, ◌==◌, ◌+◌, ◌≤◌, ◌++◌, ◌∷◌, [], IsTrue, IfOk, OnOk, length, take, drop};
 ghost use Rattle.std.specs.List.{AllByRecursion};
 ghost use Rattle.rule_model.specs.Key.{IsKey};
-ghost use Rattle.tcam_device.specs.State.{replay};
+ghost use Rattle.tcam_device.specs.View.{device_state, IsSameButFlight};
 ghost use Rattle.replay.specs.Effects.{drain_told, probes_told, write_told};
 ghost use Rattle.replay.specs.InFlight.{AreOf, flight_left, found_after, found_all, found_lines, probe_words};
 ghost use Rattle.replay.specs.Outside.{WritesLines};
@@ -139,17 +139,13 @@ impl Watch {
         sink: &mut K,
         device: &mut D,
     ) -> Result<(), Failed>
-        requires words { AreOf (probes_told self.now.json self.now.probes) waiting (D.flight device.old) }
+        requires words { AreOf (probes_told self.now.json self.now.probes) waiting (D.view device.old).flight }
         requires few { waiting ≤ self.now.depth }
         ensures lines { WritesLines K.taken K.accepted K.faults sink.old sink.new
-            (write_told self.now.json self.now.trace self.now.family number write.now ++ found_after self.now.family (probes_told self.now.json self.now.probes) self.now.depth number waiting (replay (D.slot_count device.old) (D.journal device.old)) (D.flight device.old)) result }
-        ensures flight { OnOk result (D.flight device.new ≡ flight_left (probes_told self.now.json self.now.probes) self.now.depth waiting (replay (D.slot_count device.old) (D.journal device.old)) (D.flight device.old)) }
+            (write_told self.now.json self.now.trace self.now.family number write.now ++ found_after self.now.family (probes_told self.now.json self.now.probes) self.now.depth number waiting (device_state (D.view device.old)) (D.view device.old).flight) result }
+        ensures flight { OnOk result ((D.view device.new).flight ≡ flight_left (probes_told self.now.json self.now.probes) self.now.depth waiting (device_state (D.view device.old)) (D.view device.old).flight) }
         ensures keys { AllByRecursion IsKey (probes_told self.now.json self.now.probes) }
-        ensures journal { D.journal device.new ≡ D.journal device.old }
-        ensures events { D.events device.new ≡ D.events device.old }
-        ensures spare { D.spare device.new ≡ D.spare device.old }
-        ensures slots { D.slot_count device.new ≡ D.slot_count device.old }
-        ensures faults { D.faults device.new ≡ D.faults device.old }
+        ensures others { IsSameButFlight (D.view device.old) (D.view device.new) }
     {
         let depth = self.depth;
         self.translate(device);
@@ -193,15 +189,11 @@ impl Watch {
         sink: &mut K,
         device: &mut D,
     ) -> Result<(), Failed>
-        requires words { AreOf (probes_told self.now.json self.now.probes) count.now.waiting (D.flight device.old) }
+        requires words { AreOf (probes_told self.now.json self.now.probes) count.now.waiting (D.view device.old).flight }
         ensures lines { WritesLines K.taken K.accepted K.faults sink.old sink.new
-            (found_all self.now.family count.now.told (replay (D.slot_count device.old) (D.journal device.old)) (length (probes_told self.now.json self.now.probes)) count.now.waiting (D.flight device.old)) result }
-        ensures flight { OnOk result (D.flight device.new ≡ []) }
-        ensures journal { D.journal device.new ≡ D.journal device.old }
-        ensures events { D.events device.new ≡ D.events device.old }
-        ensures spare { D.spare device.new ≡ D.spare device.old }
-        ensures slots { D.slot_count device.new ≡ D.slot_count device.old }
-        ensures faults { D.faults device.new ≡ D.faults device.old }
+            (found_all self.now.family count.now.told (device_state (D.view device.old)) (length (probes_told self.now.json self.now.probes)) count.now.waiting (D.view device.old).flight) result }
+        ensures flight { OnOk result ((D.view device.new).flight ≡ []) }
+        ensures others { IsSameButFlight (D.view device.old) (D.view device.new) }
     {
         for place in 0..count.waiting {
             self.search(count.told, sink, device)?;
@@ -211,15 +203,11 @@ impl Watch {
 
     // Puts the word of each probe that is told of into flight, in their order.
     fn translate<D: Device>(&self, device: &mut D)
-        requires room { length (D.flight device.old) + length (probes_told self.now.json self.now.probes) ≤ 256 }
-        ensures flight { D.flight device.new
-            ≡ D.flight device.old ++ probe_words (replay (D.slot_count device.old) (D.journal device.old)) (probes_told self.now.json self.now.probes) }
+        requires room { length (D.view device.old).flight + length (probes_told self.now.json self.now.probes) ≤ 256 }
+        ensures flight { (D.view device.new).flight
+            ≡ (D.view device.old).flight ++ probe_words (device_state (D.view device.old)) (probes_told self.now.json self.now.probes) }
         ensures keys { AllByRecursion IsKey (probes_told self.now.json self.now.probes) }
-        ensures journal { D.journal device.new ≡ D.journal device.old }
-        ensures events { D.events device.new ≡ D.events device.old }
-        ensures spare { D.spare device.new ≡ D.spare device.old }
-        ensures slots { D.slot_count device.new ≡ D.slot_count device.old }
-        ensures faults { D.faults device.new ≡ D.faults device.old }
+        ensures others { IsSameButFlight (D.view device.old) (D.view device.new) }
     {
         for place in 0..self.told() {
             let key = &self.probes[place];
@@ -235,15 +223,11 @@ impl Watch {
         sink: &mut K,
         device: &mut D,
     ) -> Result<(), Failed>
-        requires words { length (probes_told self.now.json self.now.probes) ≤ length (D.flight device.old) }
+        requires words { length (probes_told self.now.json self.now.probes) ≤ length (D.view device.old).flight }
         ensures lines { WritesLines K.taken K.accepted K.faults sink.old sink.new
-            (found_lines self.now.family number (replay (D.slot_count device.old) (D.journal device.old)) 1 (take (length (probes_told self.now.json self.now.probes)) (D.flight device.old))) result }
-        ensures flight { OnOk result (D.flight device.new ≡ drop (length (probes_told self.now.json self.now.probes)) (D.flight device.old)) }
-        ensures journal { D.journal device.new ≡ D.journal device.old }
-        ensures events { D.events device.new ≡ D.events device.old }
-        ensures spare { D.spare device.new ≡ D.spare device.old }
-        ensures slots { D.slot_count device.new ≡ D.slot_count device.old }
-        ensures faults { D.faults device.new ≡ D.faults device.old }
+            (found_lines self.now.family number (device_state (D.view device.old)) 1 (take (length (probes_told self.now.json self.now.probes)) (D.view device.old).flight)) result }
+        ensures flight { OnOk result ((D.view device.new).flight ≡ drop (length (probes_told self.now.json self.now.probes)) (D.view device.old).flight) }
+        ensures others { IsSameButFlight (D.view device.old) (D.view device.new) }
     {
         for place in 0..self.told() {
             match device.search() {

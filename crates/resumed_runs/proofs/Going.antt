@@ -10,7 +10,7 @@ use Rattle.replay.specs.declared.ActFault.TheVariants.{BatchFull, ProbesFull, He
 use Rattle.replay.specs.declared.RunFault.TheVariants.{Sink, Device, Memory}
 use Rattle.replay.specs.Fates.{AnswersBroken}
 use Rattle.rule_model.specs.declared.IpVersion.{IpVersion}
-use Rattle.replay.specs.Running.{Running, AreLeft, ComesTo, IsToldIn, IsUntouched, LeavesWords}
+use Rattle.replay.specs.Running.{Running, AreLeft, ComesTo, IsToldIn, NothingIsDone, LeavesWords}
 
 -- none, where no commit is unfinished
 none-left : (new : Running) (flight : Flight) (held : Option HeldCommit) → new.manager.held ≡ held → held ≡ None → flight ≡ [] → AreLeft new flight
@@ -58,7 +58,7 @@ lost-where A B C false wants never = absurd (never wants.1)
 pub lost_behind : (slots : ℕ) (old new : Running) (act : Act) (result : Result (Unit {0}) ActFault) (events_old events_new : List Action) (taken_old taken_new : Option (List ℕ))
     → result ≡ Err (Stopped Memory) → ComesTo slots old act new result events_old events_new taken_old taken_new → events_new ≢ events_old → new.broken ≡ true
 lost_behind slots old new act result events_old events_new taken_old taken_new wants comes done =
-    lost-where _ _ _ new.broken (rw wants at comes) (λ (same : IsUntouched old new events_old events_new taken_old taken_new). done same.events)
+    lost-where _ _ _ new.broken (rw wants at comes) (λ (same : NothingIsDone old new events_old events_new taken_old taken_new). done same.events)
 
 -- a run whose report is in words takes any act
 pub told_words : (json : Bool) (version : IpVersion) (act : Act) → json ≡ false → IsToldIn json version act

@@ -4,8 +4,7 @@ use Rattle.std.proofs.lemmas.List.{length-replicate, replicate-append-replicate}
 use Rattle.rule_model.specs.declared.words.Entry.{Entry}
 use Rattle.rule_store.specs.declared.Mode.{Mode}
 use Rattle.tcam_device.specs.State.{State, blank}
-use Rattle.tcam_device.specs.declared.Action.{Action}
-use Rattle.tcam_device.specs.Flight.{Flight}
+use Rattle.tcam_device.specs.View.{DeviceView}
 use Rattle.batch_order.specs.declared.Placement.{Placement}
 use Rattle.report_lines.specs.declared.Family.{Family}
 use Rattle.replay.specs.Running.{begun}
@@ -20,16 +19,16 @@ blank-more slots device_slots within =
     ∙ replicate-append-replicate slots (device_slots - slots) None ∙ ap (λ n. replicate n None) all
 
 -- it may be called
-pub begun_going : (slots : ℕ) (mode : Mode) (placement : Placement) (family : Family) (trace : Bool) (depth : ℕ) (device_slots spare : ℕ) (events : List Action) (flight : Flight)
-    → slots ≤ device_slots → events ≡ [] → flight ≡ [] → CanGoOn (begun slots mode placement family trace depth false) device_slots spare events flight
-begun_going slots mode placement family trace depth device_slots spare events flight within nothing none = record {
+pub begun_going : (slots : ℕ) (mode : Mode) (placement : Placement) (family : Family) (trace : Bool) (depth : ℕ) (device : DeviceView)
+    → slots ≤ device.slots → device.events ≡ [] → device.flight ≡ [] → CanGoOn (begun slots mode placement family trace depth false) device
+begun_going slots mode placement family trace depth device within nothing none = record {
   slots = within;
   whole = refl;
   words = refl;
   room = tt;
   in_flight = none;
   stands =
-      let f : List (Option Entry) → State = λ s. record (blank device_slots) { slots = s } in
-      rw nothing (ap f (blank-more slots device_slots within));
+      let f : List (Option Entry) → State = λ s. record (blank device.slots) { slots = s } in
+      rw nothing (ap f (blank-more slots device.slots within));
   current = rw none tt;
 }

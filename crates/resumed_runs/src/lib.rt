@@ -4,9 +4,8 @@
 //! each call keeps it, whatever it answers but a failure of the sink or want of memory: so any call may follow.
 #![tactic(auto)]
 
-ghost use Rattle.std.specs.Prelude.{◌≡◌, ◌≢◌, ℕ, ◌+◌, ◌<◌, ◌≤◌, ◌^◌, [], true, Err, IfOk, List};
-ghost use Rattle.tcam_device.specs.declared.Action.{Action};
-ghost use Rattle.tcam_device.specs.Flight.{Flight};
+ghost use Rattle.std.specs.Prelude.{◌≡◌, ◌≢◌, ◌+◌, ◌<◌, ◌≤◌, ◌^◌, [], true, Err, IfOk};
+ghost use Rattle.tcam_device.specs.View.{DeviceView};
 ghost use Rattle.replay.specs.Running.{IsActOf};
 ghost use Rattle.resumed_runs.specs.Going.{CanGoOn};
 
@@ -29,7 +28,7 @@ pub fn begin(
     requires least { 1 ≤ slots }
     requires most { slots ≤ MOST_SLOTS }
     requires depth { depth ≤ 15 }
-    ensures going { IfOk result (λ run. (device_slots spare : ℕ) → (events : List Action) → (flight : Flight) → slots ≤ device_slots → events ≡ [] → flight ≡ [] → CanGoOn run device_slots spare events flight) }
+    ensures going { IfOk result (λ run. (device : DeviceView) → slots ≤ device.slots → device.events ≡ [] → device.flight ≡ [] → CanGoOn run device) }
     ensures begins { IfOk result (λ run. run.commits ≡ 0) }
 {
     Ok(Run::new(alloc, slots, mode, placement, family, trace, depth, false)?)
@@ -43,11 +42,11 @@ pub fn apply<K: Sink, D: ReadBack>(
     sink: &mut K,
     device: &mut D,
 ) -> Result<(), ActFault>
-    requires going { CanGoOn run.old (D.slot_count device.old) (D.spare device.old) (D.events device.old) (D.flight device.old) }
+    requires going { CanGoOn run.old (D.view device.old) }
     requires act { IsActOf run.old.family act.now }
     requires few { run.old.commits < 2 ^ 24 }
-    ensures going { result ≢ Err (ActFault.Stopped RunFault.Sink) → result ≢ Err (ActFault.Stopped RunFault.Memory) → CanGoOn run.new (D.slot_count device.new) (D.spare device.new) (D.events device.new) (D.flight device.new) }
-    ensures lost { result ≡ Err (ActFault.Stopped RunFault.Memory) → D.events device.new ≢ D.events device.old → run.new.broken ≡ true }
+    ensures going { result ≢ Err (ActFault.Stopped RunFault.Sink) → result ≢ Err (ActFault.Stopped RunFault.Memory) → CanGoOn run.new (D.view device.new) }
+    ensures lost { result ≡ Err (ActFault.Stopped RunFault.Memory) → (D.view device.new).events ≢ (D.view device.old).events → run.new.broken ≡ true }
     ensures family { run.new.family ≡ run.old.family }
     ensures few { run.new.commits ≤ run.old.commits + 1 }
 {
@@ -60,9 +59,9 @@ pub fn resume<K: Sink, D: ReadBack>(
     sink: &mut K,
     device: &mut D,
 ) -> Result<(), RunFault>
-    requires going { CanGoOn run.old (D.slot_count device.old) (D.spare device.old) (D.events device.old) (D.flight device.old) }
+    requires going { CanGoOn run.old (D.view device.old) }
     requires few { run.old.commits < 2 ^ 24 }
-    ensures going { result ≢ Err RunFault.Sink → result ≢ Err RunFault.Memory → CanGoOn run.new (D.slot_count device.new) (D.spare device.new) (D.events device.new) (D.flight device.new) }
+    ensures going { result ≢ Err RunFault.Sink → result ≢ Err RunFault.Memory → CanGoOn run.new (D.view device.new) }
     ensures family { run.new.family ≡ run.old.family }
     ensures few { run.new.commits ≤ run.old.commits + 1 }
 {

@@ -1,17 +1,27 @@
 -- What the daemon's commit leaves: a batch that is refused or taken, and a write that failed.
-use Rattle.std.specs.Prelude.{◌≡◌, ℕ, ◌++◌, Err, Some, List}
+use Rattle.std.specs.Prelude.{◌≡◌, ℕ, ◌≤◌, ◌++◌, Err, Some, List, []}
 use Rattle.rule_model.specs.declared.Rule.{Rule}
 use Rattle.rule_store.specs.declared.Command.{Command}
 use Rattle.rule_store.specs.Verdict.{Accepted, verdict}
 use Rattle.tcam_device.specs.declared.Write.{Write}
 use Rattle.tcam_device.specs.State.{apply, replay}
 use Rattle.tcam_device.specs.Hitless.{ShowsOldOrNew}
+use Rattle.tcam_device.specs.View.{DeviceView, journal}
 use Rattle.commit_writes.specs.declared.Done.{Done}
 use Rattle.batch_order.specs.declared.Refusal.{Refusal}
 use Rattle.readback.specs.Judged.{judgement}
-use Rattle.batch_order.specs.Managed.{Managed, Answers, Holds}
+use Rattle.batch_order.specs.Managed.{Managed, Answers, Holds, IsOn}
 use Rattle.batch_order.specs.Steps.{next_of}
-use Rattle.batch_order.specs.CarriedOut.{ahead, writes_left}
+use Rattle.batch_order.specs.CarriedOut.{GoesForward, HasRoomLeft, ahead, writes_left}
+
+-- The device has the manager's slots and holds what its writes left, no word is in flight, and a commit under way goes
+-- forward and has room for what is left of it.
+pub record IsLed (manager : Managed) (device : DeviceView) : Type 0 where
+  pub slots : manager.slots ≤ device.slots
+  pub on : IsOn device.slots (journal device) manager
+  pub none_in_flight : device.flight ≡ []
+  pub room : HasRoomLeft manager.held device.spare
+  pub forward : GoesForward manager.held
 
 -- A batch is refused as the verdict on it says, and nothing changes.
 pub record IsRefused (manager manager' : Managed) (batch : List Command) (journal journal' : List Write) (refusal : Refusal) : Type 0 where

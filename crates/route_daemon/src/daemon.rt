@@ -2,12 +2,13 @@
 
 ghost use Rattle.std.specs.Prelude.{◌≡◌, ◌≢◌, ◌↔◌, ◌<◌, ◌≤◌, ◌-◌, ◌%◌, ◌^◌, ◌++◌, ◌∷◌, [], None, Err, IfErr, OnOk, OnErr};
 ghost use Rattle.call_history.specs.Cause.{HasCause, IsCounted};
-ghost use Rattle.tcam_device.specs.State.{Shows, replay};
+ghost use Rattle.tcam_device.specs.State.{Shows};
+ghost use Rattle.tcam_device.specs.View.{device_state, journal};
 ghost use Rattle.rule_store.specs.Batch.{set_after};
 ghost use Rattle.batch_order.specs.Managed.{IsOn};
 ghost use Rattle.route_daemon.specs.Asked.{TakesNoMore, IsNetwork, address_in, length_in, longest_in, route_priority, route_to};
-ghost use Rattle.batch_order.specs.CarriedOut.{GoesForward, HasRoomLeft, IsServed, ahead, writes_left};
-ghost use Rattle.route_daemon.specs.Served.{IsRefused, IsStuck, TakesCommit};
+ghost use Rattle.batch_order.specs.CarriedOut.{IsServed, ahead, writes_left};
+ghost use Rattle.route_daemon.specs.Served.{IsLed, IsRefused, IsStuck, TakesCommit};
 
 use crate::networks::{Network, priority_of, route_of};
 use batch_order::{Manager, Refusal, Unfinished};
@@ -115,25 +116,22 @@ pub fn commit<D: Device>(
     device: &mut D,
     packet: &Packet,
 ) -> Result<(), CommitFault>
-    requires slots { manager.old.slots ≤ D.slot_count device.old }
-    requires on { IsOn (D.slot_count device.old) (D.journal device.old) manager.old }
-    requires none_in_flight { D.flight device.old ≡ [] }
+    requires slots { manager.old.slots ≤ (D.view device.old).slots }
+    requires on { IsOn (D.view device.old).slots (journal (D.view device.old)) manager.old }
+    requires none_in_flight { (D.view device.old).flight ≡ [] }
     requires idle { manager.old.held ≡ None }
     ensures slots { manager.new.slots ≡ manager.old.slots }
-    ensures slot_count { D.slot_count device.new ≡ D.slot_count device.old }
-    ensures on { IsOn (D.slot_count device.new) (D.journal device.new) manager.new }
-    ensures room { HasRoomLeft manager.new.held (D.spare device.new) }
-    ensures none_in_flight { D.flight device.new ≡ [] }
-    ensures forward { GoesForward manager.new.held }
-    ensures before { Shows (replay (D.slot_count device.old) (D.journal device.old)) manager.old.rules }
-    ensures hitless { IsServed (D.slot_count device.new) (D.journal device.old) (D.journal device.new) manager.old.rules (set_after manager.old.rules batch.now) }
+    ensures slot_count { (D.view device.new).slots ≡ (D.view device.old).slots }
+    ensures led { IsLed manager.new (D.view device.new) }
+    ensures before { Shows (device_state (D.view device.old)) manager.old.rules }
+    ensures hitless { IsServed (D.view device.new).slots (journal (D.view device.old)) (journal (D.view device.new)) manager.old.rules (set_after manager.old.rules batch.now) }
     ensures idle { OnOk result (manager.new.held ≡ None) }
     ensures rules { OnOk result (manager.new.rules ≡ set_after manager.old.rules batch.now) }
-    ensures shows { OnOk result (Shows (replay (D.slot_count device.new) (D.journal device.new)) (set_after manager.old.rules batch.now)) }
-    ensures taken { ((refusal : Refusal) → result ≢ Err (CommitFault.Refused refusal)) → TakesCommit manager.old manager.new batch.now (D.journal device.old) (D.journal device.new) }
-    ensures refused { (refusal : Refusal) → (result ≡ Err (CommitFault.Refused refusal)) → IsRefused manager.old manager.new batch.now (D.journal device.old) (D.journal device.new) refusal }
-    ensures stuck { (result ≡ Err CommitFault.Stuck) → IsStuck (D.slot_count device.new) (D.journal device.new) manager.old.rules (set_after manager.old.rules batch.now) manager.new }
-    ensures cause { IsCounted (result ≡ Err CommitFault.Stuck) (D.faults device.old) (D.faults device.new) }
+    ensures shows { OnOk result (Shows (device_state (D.view device.new)) (set_after manager.old.rules batch.now)) }
+    ensures taken { ((refusal : Refusal) → result ≢ Err (CommitFault.Refused refusal)) → TakesCommit manager.old manager.new batch.now (journal (D.view device.old)) (journal (D.view device.new)) }
+    ensures refused { (refusal : Refusal) → (result ≡ Err (CommitFault.Refused refusal)) → IsRefused manager.old manager.new batch.now (journal (D.view device.old)) (journal (D.view device.new)) refusal }
+    ensures stuck { (result ≡ Err CommitFault.Stuck) → IsStuck (D.view device.new).slots (journal (D.view device.new)) manager.old.rules (set_after manager.old.rules batch.now) manager.new }
+    ensures cause { IsCounted (result ≡ Err CommitFault.Stuck) (D.view device.old).faults (D.view device.new).faults }
 {
     match manager.prepare(batch, device) {
         Ok(counts) => {
@@ -157,24 +155,17 @@ pub fn resume<D: Device>(
     device: &mut D,
     packet: &Packet,
 ) -> Result<(), DeviceFault>
-    requires slots { manager.old.slots ≤ D.slot_count device.old }
-    requires on { IsOn (D.slot_count device.old) (D.journal device.old) manager.old }
-    requires none_in_flight { D.flight device.old ≡ [] }
-    requires room { HasRoomLeft manager.old.held (D.spare device.old) }
-    requires forward { GoesForward manager.old.held }
+    requires led { IsLed manager.old (D.view device.old) }
     ensures slots { manager.new.slots ≡ manager.old.slots }
-    ensures slot_count { D.slot_count device.new ≡ D.slot_count device.old }
-    ensures on { IsOn (D.slot_count device.new) (D.journal device.new) manager.new }
-    ensures none_in_flight { D.flight device.new ≡ [] }
-    ensures room { HasRoomLeft manager.new.held (D.spare device.new) }
-    ensures forward { GoesForward manager.new.held }
-    ensures hitless { IsServed (D.slot_count device.new) (D.journal device.old) (D.journal device.new) manager.old.rules (ahead manager.old) }
-    ensures made { D.journal device.new ++ writes_left manager.new.held ≡ D.journal device.old ++ writes_left manager.old.held }
+    ensures slot_count { (D.view device.new).slots ≡ (D.view device.old).slots }
+    ensures led { IsLed manager.new (D.view device.new) }
+    ensures hitless { IsServed (D.view device.new).slots (journal (D.view device.old)) (journal (D.view device.new)) manager.old.rules (ahead manager.old) }
+    ensures made { journal (D.view device.new) ++ writes_left manager.new.held ≡ journal (D.view device.old) ++ writes_left manager.old.held }
     ensures idle { OnOk result (manager.new.held ≡ None) }
     ensures rules { OnOk result (manager.new.rules ≡ ahead manager.old) }
-    ensures shows { OnOk result (Shows (replay (D.slot_count device.new) (D.journal device.new)) (ahead manager.old)) }
-    ensures stuck { OnErr result (IsStuck (D.slot_count device.new) (D.journal device.new) manager.old.rules (ahead manager.old) manager.new) }
-    ensures cause { HasCause (D.faults device.old) (D.faults device.new) result }
+    ensures shows { OnOk result (Shows (device_state (D.view device.new)) (ahead manager.old)) }
+    ensures stuck { OnErr result (IsStuck (D.view device.new).slots (journal (D.view device.new)) manager.old.rules (ahead manager.old) manager.new) }
+    ensures cause { HasCause (D.view device.old).faults (D.view device.new).faults result }
 {
     let carried = manager.carry_out(device, 1);
     let _ = tell(rt, device, packet);

@@ -21,6 +21,7 @@ mod registers;
 ghost use Rattle.std.specs.Prelude.{◌≡◌, ◌≤◌, [], None, OnOk};
 ghost use Rattle.rule_store.specs.Batch.{set_after};
 ghost use Rattle.batch_order.specs.Managed.{IsOn};
+ghost use Rattle.tcam_device.specs.View.{journal};
 
 use anyhow::anyhow;
 use batch_order::{Manager, Mode, Placement};
@@ -77,9 +78,9 @@ fn change_routes<D: Device>(
     manager: &mut Manager,
     device: &mut D,
 ) -> anyhow::Result<()>
-    requires slots { manager.old.slots ≤ D.slot_count device.old }
-    requires on { IsOn (D.slot_count device.old) (D.journal device.old) manager.old }
-    requires none_in_flight { D.flight device.old ≡ [] }
+    requires slots { manager.old.slots ≤ (D.view device.old).slots }
+    requires on { IsOn (D.view device.old).slots (journal (D.view device.old)) manager.old }
+    requires none_in_flight { (D.view device.old).flight ≡ [] }
     requires idle { manager.old.held ≡ None }
 {
     let mut batch = Batch::new(rt.alloc());
@@ -104,14 +105,14 @@ fn push_batch<D: Device>(
     device: &mut D,
     packet: &Packet,
 ) -> anyhow::Result<()>
-    requires slots { manager.old.slots ≤ D.slot_count device.old }
-    requires on { IsOn (D.slot_count device.old) (D.journal device.old) manager.old }
-    requires none_in_flight { D.flight device.old ≡ [] }
+    requires slots { manager.old.slots ≤ (D.view device.old).slots }
+    requires on { IsOn (D.view device.old).slots (journal (D.view device.old)) manager.old }
+    requires none_in_flight { (D.view device.old).flight ≡ [] }
     requires idle { manager.old.held ≡ None }
     ensures slots { manager.new.slots ≡ manager.old.slots }
-    ensures slot_count { D.slot_count device.new ≡ D.slot_count device.old }
-    ensures on { IsOn (D.slot_count device.new) (D.journal device.new) manager.new }
-    ensures none_in_flight { D.flight device.new ≡ [] }
+    ensures slot_count { (D.view device.new).slots ≡ (D.view device.old).slots }
+    ensures on { IsOn (D.view device.new).slots (journal (D.view device.new)) manager.new }
+    ensures none_in_flight { (D.view device.new).flight ≡ [] }
     ensures idle { OnOk result (manager.new.held ≡ None) }
     ensures rules { OnOk result (manager.new.rules ≡ set_after manager.old.rules batch.now) }
 {

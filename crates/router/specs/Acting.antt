@@ -58,7 +58,7 @@ pub record KeepsCounts (old new : Routing) : Type 0 where
   pub refused : new.refused ≡ old.refused
 
 -- nothing is done, not of the router, of its devices, or of the sink
-pub record IsUntouched (old new : Routing) (before after : Outside) : Type 0 where
+pub record NothingIsDone (old new : Routing) (before after : Outside) : Type 0 where
   pub router : new ≡ old
   pub outside_is : after ≡ before
 
@@ -76,9 +76,9 @@ ComesTo slots old act new (Err Sink) before after =
 ComesTo slots old act new (Err Device) before after =
     KeepsCounts old new
     × (AreAt old before.list before.routes → CutsAtPart (setting_of old) slots (progress_of old) act (failed_side new) (held_left slots new) before after)
-ComesTo slots old act new (Err Memory) before after = TakesMemory (setting_of old) (progress_of old) act × IsUntouched old new before after
-ComesTo slots old act new (Err BatchFull) before after = IsUntouched old new before after
-ComesTo slots old act new (Err (Held left)) before after = IsUntouched old new before after
+ComesTo slots old act new (Err Memory) before after = TakesMemory (setting_of old) (progress_of old) act × NothingIsDone old new before after
+ComesTo slots old act new (Err BatchFull) before after = NothingIsDone old new before after
+ComesTo slots old act new (Err (Held left)) before after = NothingIsDone old new before after
 
 -- held is answered with what is left of an unfinished commit, and else never
 abbrev pub IsNotHeld : Result (Unit {0}) RouterFault → Type 0

@@ -30,11 +30,13 @@ pub(crate) fn prepare(
     ensures before { Serves (replay manager.old.slots (writes_in device.old.events)) manager.old.rules manager.old.held }
     ensures serves { Serves (replay manager.new.slots (writes_in device.new.events)) manager.new.rules manager.new.held }
 {
-    let answer = manager.prepare(batch, device);
-    if answer.is_ok() {
-        settle(manager, device);
+    match manager.prepare(batch, device) {
+        Ok(counts) => {
+            settle(manager, device);
+            Ok(counts)
+        }
+        Err(refusal) => Err(refusal),
     }
-    answer
 }
 
 /// Turns the commit under way round. With no write made it is over at once.

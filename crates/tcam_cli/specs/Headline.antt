@@ -20,6 +20,7 @@ use Rattle.rule_store.specs.Verdict.{Accepted, verdict}
 use Rattle.tcam_device.specs.declared.Write.{Write}
 use Rattle.tcam_device.specs.declared.Action.{Action}
 use Rattle.tcam_device.specs.declared.Action.TheVariants.{Written}
+use Rattle.tcam_device.specs.View.{DeviceView, journal}
 use Rattle.batch_order.specs.CarriedOut.{IsTried}
 use Rattle.replay.specs.declared.Act.{Act}
 use Rattle.replay.specs.declared.Act.TheVariants.{Command, Probe, Packet, Commit, Trial, Crash}
@@ -234,10 +235,10 @@ MayEnd Refused job left = IsDecided Refused job left
 MayEnd ScriptFault job left = ReadsSource job × IsDecided ScriptFault job left
 
 -- A fault of source or sink exactly where its count rose, by one; of the device where its count rose by four, as by
--- four tries of one write, and beside them by at most three for each write that was made. Else it is want of memory, or
--- the status that words and script decide.
-pub record HasCauses (job : Job) (left : Option (List ℕ)) (status : Status) (made source_old source_new sink_old sink_new device_old device_new : ℕ) : Type 0 where
+-- four tries of one write, and beside them by at most three for each write of its journal, which was blank. Else it is
+-- want of memory, or the status that words and script decide.
+pub record HasCauses (job : Job) (left : Option (List ℕ)) (status : Status) (source_old source_new sink_old sink_new : ℕ) (device_old device_new : DeviceView) : Type 0 where
   pub read : IsCounted (status ≡ ReadFault) source_old source_new
   pub write : IsCounted (status ≡ WriteFault) sink_old sink_new
-  pub device : IsTried 4 made (status ≡ DeviceFault) device_old device_new
+  pub device : IsTried 4 (length (journal device_new)) (status ≡ DeviceFault) device_old.faults device_new.faults
   pub ends : MayEnd status job left

@@ -25,6 +25,7 @@ ghost use Rattle.tcam_cli.specs.Readings.{acl_act, acl_reading, common_act, read
 ghost use Rattle.script_runs.specs.Rounds.{RoundsBy};
 ghost use Rattle.route_reader.specs.Routes as routes;
 ghost use Rattle.tcam_cli.specs.Rounds.{ClosesReport, IsBetweenLines, status_of_fault};
+ghost use Rattle.tcam_device.specs.View.{journal};
 
 use crate::Status;
 use crate::command_line::{Asked, read_words};
@@ -83,22 +84,21 @@ pub fn run<S: Source, K: Sink, D: ReadBack>(
     sink: &mut K,
     device: &mut D,
 ) -> Status
-    requires slots { MOST_SLOTS ≤ D.slot_count device.old }
-    requires blank { D.events device.old ≡ [] }
-    requires none_in_flight { D.flight device.old ≡ [] }
-    ensures carried_out { IsCarriedOut (job_of (map (λ w. string_bytes w) words.now)) (D.slot_count device.old) result
-        (S.left source.old) (S.left source.new) (K.taken sink.old) (K.taken sink.new) (D.events device.new) }
-    ensures hitless { IsHitlessJob (job_of (map (λ w. string_bytes w) words.now)) (D.slot_count device.old) result
-        (S.left source.old) (S.left source.new) (D.journal device.new) }
-    ensures given { (which : Bool) → IsPromisedByGiven (job_of (map (λ w. string_bytes w) words.now)) (D.slot_count device.old) result
-        (S.given source.old) (S.given source.new) (counted which (K.taken sink.old) (K.accepted sink.old)) (counted which (K.taken sink.new) (K.accepted sink.new)) (D.events device.new) }
-    ensures in_time { ReadsInTime (job_of (map (λ w. string_bytes w) words.now)) (D.slot_count device.old) result
-        (S.given source.old) (S.given source.new) (D.events device.new) (K.accepted sink.old) (K.accepted sink.new) }
+    requires slots { MOST_SLOTS ≤ (D.view device.old).slots }
+    requires blank { (D.view device.old).events ≡ [] }
+    requires none_in_flight { (D.view device.old).flight ≡ [] }
+    ensures carried_out { IsCarriedOut (job_of (map (λ w. string_bytes w) words.now)) (D.view device.old).slots result
+        (S.left source.old) (S.left source.new) (K.taken sink.old) (K.taken sink.new) (D.view device.new).events }
+    ensures hitless { IsHitlessJob (job_of (map (λ w. string_bytes w) words.now)) (D.view device.old).slots result
+        (S.left source.old) (S.left source.new) (journal (D.view device.new)) }
+    ensures given { (which : Bool) → IsPromisedByGiven (job_of (map (λ w. string_bytes w) words.now)) (D.view device.old).slots result
+        (S.given source.old) (S.given source.new) (counted which (K.taken sink.old) (K.accepted sink.old)) (counted which (K.taken sink.new) (K.accepted sink.new)) (D.view device.new).events }
+    ensures in_time { ReadsInTime (job_of (map (λ w. string_bytes w) words.now)) (D.view device.old).slots result
+        (S.given source.old) (S.given source.new) (D.view device.new).events (K.accepted sink.old) (K.accepted sink.new) }
     ensures told { (IsSome (S.left source.old) → IsSome (S.left source.new)) × (IsSome (K.taken sink.old) → IsSome (K.taken sink.new)) }
-    ensures slot_count { D.slot_count device.new ≡ D.slot_count device.old }
-    ensures causes { HasCauses (job_of (map (λ w. string_bytes w) words.now)) (S.left source.old) result (length (D.journal device.new))
-        (S.faults source.old) (S.faults source.new) (K.faults sink.old) (K.faults sink.new)
-        (D.faults device.old) (D.faults device.new) }
+    ensures slot_count { (D.view device.new).slots ≡ (D.view device.old).slots }
+    ensures causes { HasCauses (job_of (map (λ w. string_bytes w) words.now)) (S.left source.old) result
+        (S.faults source.old) (S.faults source.new) (K.faults sink.old) (K.faults sink.new) (D.view device.old) (D.view device.new) }
 {
     match read_words(alloc, words) {
         Ok(
@@ -143,23 +143,22 @@ fn run_script<S: Source, K: Sink, D: ReadBack>(
     sink: &mut K,
     device: &mut D,
 ) -> Status
-    requires slots { run.old.manager.slots ≤ D.slot_count device.old }
+    requires slots { run.old.manager.slots ≤ (D.view device.old).slots }
     requires idle { run.old.manager.held ≡ None }
     requires whole { run.old.broken ≡ false }
-    requires begun { progress_of (D.slot_count device.old) run.old ≡ start (D.slot_count device.old) }
-    requires blank { D.events device.old ≡ [] }
-    requires none_in_flight { D.flight device.old ≡ [] }
-    ensures carried_out { IsCarriedOut (Reads (setting_of run.old)) (D.slot_count device.old) result
-        (S.left source.old) (S.left source.new) (K.taken sink.old) (K.taken sink.new) (D.events device.new) }
-    ensures given { (which : Bool) → IsPromisedByGiven (Reads (setting_of run.old)) (D.slot_count device.old) result
-        (S.given source.old) (S.given source.new) (counted which (K.taken sink.old) (K.accepted sink.old)) (counted which (K.taken sink.new) (K.accepted sink.new)) (D.events device.new) }
-    ensures in_time { ReadsInTime (Reads (setting_of run.old)) (D.slot_count device.old) result
-        (S.given source.old) (S.given source.new) (D.events device.new) (K.accepted sink.old) (K.accepted sink.new) }
+    requires begun { progress_of (D.view device.old).slots run.old ≡ start (D.view device.old).slots }
+    requires blank { (D.view device.old).events ≡ [] }
+    requires none_in_flight { (D.view device.old).flight ≡ [] }
+    ensures carried_out { IsCarriedOut (Reads (setting_of run.old)) (D.view device.old).slots result
+        (S.left source.old) (S.left source.new) (K.taken sink.old) (K.taken sink.new) (D.view device.new).events }
+    ensures given { (which : Bool) → IsPromisedByGiven (Reads (setting_of run.old)) (D.view device.old).slots result
+        (S.given source.old) (S.given source.new) (counted which (K.taken sink.old) (K.accepted sink.old)) (counted which (K.taken sink.new) (K.accepted sink.new)) (D.view device.new).events }
+    ensures in_time { ReadsInTime (Reads (setting_of run.old)) (D.view device.old).slots result
+        (S.given source.old) (S.given source.new) (D.view device.new).events (K.accepted sink.old) (K.accepted sink.new) }
     ensures told { (IsSome (S.left source.old) → IsSome (S.left source.new)) × (IsSome (K.taken sink.old) → IsSome (K.taken sink.new)) }
-    ensures slot_count { D.slot_count device.new ≡ D.slot_count device.old }
-    ensures causes { HasCauses (Reads (setting_of run.old)) (S.left source.old) result (length (D.journal device.new))
-        (S.faults source.old) (S.faults source.new) (K.faults sink.old) (K.faults sink.new)
-        (D.faults device.old) (D.faults device.new) }
+    ensures slot_count { (D.view device.new).slots ≡ (D.view device.old).slots }
+    ensures causes { HasCauses (Reads (setting_of run.old)) (S.left source.old) result
+        (S.faults source.old) (S.faults source.new) (K.faults sink.old) (K.faults sink.new) (D.view device.old) (D.view device.new) }
 {
     let mut lines = Lines::new();
     'acts: loop {
@@ -179,21 +178,21 @@ fn round<S: Source, K: Sink, D: ReadBack>(
     sink: &mut K,
     device: &mut D,
 ) -> Option<Status>
-    requires slots { run.old.manager.slots ≤ D.slot_count device.old }
-    requires none_in_flight { D.flight device.old ≡ [] }
+    requires slots { run.old.manager.slots ≤ (D.view device.old).slots }
+    requires none_in_flight { (D.view device.old).flight ≡ [] }
     requires stands { IsBetweenLines lines.old run.old }
-    requires at { IsAt (D.slot_count device.old) (D.events device.old) (progress_of (D.slot_count device.old) run.old) }
+    requires at { IsAt (D.view device.old).slots (D.view device.old).events (progress_of (D.view device.old).slots run.old) }
     ensures goes { IfNone result ((lines.old.before < lines.new.before) × IsBetweenLines lines.new run.new) }
-    ensures at { IfNone result (IsAt (D.slot_count device.new) (D.events device.new) (progress_of (D.slot_count device.new) run.new)) }
+    ensures at { IfNone result (IsAt (D.view device.new).slots (D.view device.new).events (progress_of (D.view device.new).slots run.new)) }
     ensures setting { setting_of run.new ≡ setting_of run.old }
     ensures gives { (pieces : List (List ℕ)) × GivesPieces (S.given source.old) (S.given source.new) (S.left source.old) (S.left source.new) pieces
-        × ((which : Bool) → RoundsBy (run_kind (setting_of run.old) (D.slot_count device.old)) lines.old (progress_of (D.slot_count device.old) run.old) pieces result
-        lines.new (progress_of (D.slot_count device.old) run.new) (D.events device.old) (D.events device.new) (counted which (K.taken sink.old) (K.accepted sink.old)) (counted which (K.taken sink.new) (K.accepted sink.new))) }
+        × ((which : Bool) → RoundsBy (run_kind (setting_of run.old) (D.view device.old).slots) lines.old (progress_of (D.view device.old).slots run.old) pieces result
+        lines.new (progress_of (D.view device.old).slots run.new) (D.view device.old).events (D.view device.new).events (counted which (K.taken sink.old) (K.accepted sink.old)) (counted which (K.taken sink.new) (K.accepted sink.new))) }
     ensures rests { lines.old.over ≢ Going → (S.left source.new ≡ S.left source.old) × (lines.new ≡ lines.old) }
     ensures no_usage { result ≢ Some Status.Usage }
-    ensures none_in_flight { IfNone result (D.flight device.new ≡ []) }
+    ensures none_in_flight { IfNone result ((D.view device.new).flight ≡ []) }
     ensures read { IsCounted (result ≡ Some Status.ReadFault) (S.faults source.old) (S.faults source.new) }
-    ensures leaves { Leaves K.taken K.faults sink.old sink.new D.slot_count D.journal D.faults device.old device.new (result ≡ Some Status.WriteFault) (result ≡ Some Status.DeviceFault) }
+    ensures leaves { Leaves K.taken K.faults sink.old sink.new (D.view device.old) (D.view device.new) (result ≡ Some Status.WriteFault) (result ≡ Some Status.DeviceFault) }
 {
     let line = match lines.next(source) {
         Err(LineFault::Read) => return Some(Status::ReadFault),
@@ -240,15 +239,15 @@ fn run_made<K: Sink, D: ReadBack>(
     requires most_batches { batches ≤ 64 }
     requires family { run.old.family ≡ Family.Acl }
     requires words { run.old.json ≡ false }
-    requires slots { run.old.manager.slots ≤ D.slot_count device.old }
+    requires slots { run.old.manager.slots ≤ (D.view device.old).slots }
     requires idle { run.old.manager.held ≡ None }
     requires whole { run.old.broken ≡ false }
-    requires begun { progress_of (D.slot_count device.old) run.old ≡ start (D.slot_count device.old) }
-    requires blank { D.events device.old ≡ [] }
-    requires none_in_flight { D.flight device.old ≡ [] }
-    ensures carried_out { (which : Bool) → (left : Option (List ℕ)) → IsCarriedOut (Makes (setting_of run.old) seed rules batches) (D.slot_count device.old) result
-        left left (counted which (K.taken sink.old) (K.accepted sink.old)) (counted which (K.taken sink.new) (K.accepted sink.new)) (D.events device.new) }
-    ensures leaves { Leaves K.taken K.faults sink.old sink.new D.slot_count D.journal D.faults device.old device.new (result ≡ Status.WriteFault) (result ≡ Status.DeviceFault) }
+    requires begun { progress_of (D.view device.old).slots run.old ≡ start (D.view device.old).slots }
+    requires blank { (D.view device.old).events ≡ [] }
+    requires none_in_flight { (D.view device.old).flight ≡ [] }
+    ensures carried_out { (which : Bool) → (left : Option (List ℕ)) → IsCarriedOut (Makes (setting_of run.old) seed rules batches) (D.view device.old).slots result
+        left left (counted which (K.taken sink.old) (K.accepted sink.old)) (counted which (K.taken sink.new) (K.accepted sink.new)) (D.view device.new).events }
+    ensures leaves { Leaves K.taken K.faults sink.old sink.new (D.view device.old) (D.view device.new) (result ≡ Status.WriteFault) (result ≡ Status.DeviceFault) }
 {
     let mut maker = Maker::new(seed, rules, batches);
     'acts: loop {
@@ -307,7 +306,7 @@ fn read_act(run: &Run, line: &Line) -> Result<Option<Act>, &'static str>
 }
 
 /// What an act that was read is where the report is in JSON, or in words: in JSON a trial and a crash are faults.
-fn told_act(json: bool, act: Act) -> Result<Option<Act>, &'static str>
+pub fn told_act(json: bool, act: Act) -> Result<Option<Act>, &'static str>
     ensures ok { IfOk result (λ found. told_by json act ≡ Ok found) }
     ensures err { IfErr result (λ text. told_by json act ≡ Err text.now) }
     ensures same { IfOk result (λ found. found ≡ Some act) }
@@ -326,7 +325,7 @@ fn told_act(json: bool, act: Act) -> Result<Option<Act>, &'static str>
 }
 
 /// What a line does in a script of a family, or the text of its fault.
-fn read_family_act(family: Family, line: &Line) -> Result<Option<Act>, &'static str>
+pub fn read_family_act(family: Family, line: &Line) -> Result<Option<Act>, &'static str>
     requires { line.now.len ≤ 512 }
     ensures ok { IfOk result (λ found. reading family (numbered line.now).text ≡ Ok found) }
     ensures err { IfErr result (λ text. reading family (numbered line.now).text ≡ Err text.now) }

@@ -1,5 +1,6 @@
 pub mod State
 pub mod Flight
+pub mod View
 pub mod Hitless
 pub mod Insertion
 pub mod Order

@@ -156,7 +156,7 @@ module _ (translation : Option Translation) (rules : StoredRules) (kept : Entrie
           ((did.restarted is).0, ap (λ (h : Held). view_of placement translation rules kept slots (Some h)) (did.restarted is).1)
 
 -- the room for both ways is enough for one
-enough_left : (one : HeldCommit) → room_needed one ≤ room_both_ways one
+pub enough_left : (one : HeldCommit) → room_needed one ≤ room_both_ways one
 enough_left one = go one.turned refl
   where
     go : (t : Option ℕ) → one.turned ≡ t → room_needed one ≤ room_both_ways one

@@ -1,22 +1,18 @@
 -- How many parts a plan takes, counted by what puts back what its writes replace.
-use Rattle.std.proofs.Common.{◌≡◌, ℕ, zero, suc, ◌+◌, ◌*◌, ◌<◌, ◌≤◌, Bool, true, false, Option, None, Some, List, [], ◌∷◌, length, take, drop, slice_get, refl, sym, ◌∙◌, ap, ap₂, subst, arith}
-use Rattle.std.specs.Prelude.{if◌then◌else◌}
+use Rattle.std.proofs.Common.{◌≡◌, ℕ, zero, suc, ◌+◌, Option, None, Some, List, [], ◌∷◌, take, drop, slice_get, refl, sym, ◌∙◌, ap, ap₂, arith}
 use Rattle.rule_model.specs.declared.Field.TheVariants.{Src, Dst}
-use Rattle.rule_model.specs.declared.words.Entry.{Entry}
-use Rattle.rule_model.specs.Entry.{same_match}
 use Rattle.slot_pool.specs.Arrangement.{Slots}
 use Rattle.rule_store.specs.Store.{StoredRules}
 use Rattle.tcam_device.specs.declared.Write.{Write}
 use Rattle.tcam_device.specs.declared.Write.TheVariants.{Slot, Table}
 use Rattle.tcam_device.specs.State.{State, apply, state_after}
 use Rattle.tcam_device.specs.Flight.{writes_in}
-use Rattle.commit_writes.specs.Actions.{with_drain}
 use Rattle.commit_writes.specs.Undo.{restoring, restorings}
 use Rattle.batch_order.specs.ByParts.{longest_parts, paired_number, part_number, parts_number, put_back, stands_at}
 use Rattle.batch_order.specs.CarriedOut.{writes_left}
 use Rattle.batch_order.specs.Entries.{Entries}
 use Rattle.batch_order.specs.Kept.{IsManaged, held_of, held_writes, settled_state, state_of}
-use Rattle.batch_order.specs.Managed.{HeldCommit, writes_due}
+use Rattle.batch_order.specs.Managed.{HeldCommit}
 use Rattle.batch_order.specs.Planning.{as_writes}
 use Rattle.batch_order.specs.declared.held.Held.{Held}
 use Rattle.batch_order.specs.declared.translation.Translation.{Translation}

@@ -2,20 +2,18 @@
 use Rattle.std.proofs.Common.{◌≡◌, ℕ, ◌+◌, ◌*◌, ◌^◌, ◌≤◌, Bool, true, false, List, length, Result, Ok, Err, Option, Some, None, inr, refl, sym, ap, subst, ◌∙◌, arith, le_refl}
 use Rattle.std.specs.Prelude.{IfSome}
 use Rattle.rule_store.specs.declared.Command.{Command}
-use Rattle.tcam_device.specs.State.{on_device}
 use Rattle.tcam_device.specs.Flight.{writes_in}
 use Rattle.commit_writes.specs.declared.Done.{Done}
 use Rattle.commit_writes.specs.Actions.{have_bits, with_drain}
-use Rattle.commit_writes.specs.Bits.{FieldBits, bits_with, new_bits}
+use Rattle.commit_writes.specs.Bits.{bits_with, new_bits}
 use Rattle.commit_writes.specs.InFlight.{ArePartOf}
 use Rattle.commit_writes.proofs.Led.{same_part}
 use Rattle.readback.specs.declared.Rejection.{Rejection}
 use Rattle.readback.specs.Judged.{judgement}
 use Rattle.rule_store.specs.Verdict.{verdict}
-use Rattle.batch_order.specs.declared.Refusal.{Refusal}
 use Rattle.batch_order.specs.declared.Refusal.TheVariants as refusal
-use Rattle.batch_order.specs.Managed.{Managed, HeldCommit, Answers, Holds, Judges, commit_of, live_now, room_both_ways, room_needed}
-use Rattle.batch_order.specs.CarriedOut.{GoesForward, HasRoomBothWays, HasRoomLeft}
+use Rattle.batch_order.specs.Managed.{Managed, HeldCommit, Answers, Holds, Judges, commit_of, live_now, room_both_ways}
+use Rattle.batch_order.specs.CarriedOut.{HasRoomBothWays}
 use Rattle.batch_order.specs.Steps.{cancelled, is_unwritten}
 use Rattle.batch_order.specs.Turning.{IsCurrentRight, IsHeldRight}
 use Rattle.batch_order.proofs.under_way.Drains.{length_drain, writes_left_are}
@@ -62,14 +60,6 @@ module _ (old new : Managed) (batch : List Command) (counts : Done) (holds : Hol
 
   pub reserved : (spare : ℕ) → 2 * counts.writes + 1 ≤ spare → HasRoomBothWays new.held spare
   reserved spare enough = subst (λ (m : Managed). HasRoomBothWays m.held spare) (sym holds.new_is) (both_ways spare enough)
-
-  pub room_left : (spare : ℕ) → 2 * counts.writes + 1 ≤ spare → HasRoomLeft new.held spare
-  room_left spare enough =
-      let number = number_is in
-      let actions = needed in
-      let shape : room_needed plan ≡ length (with_drain awaits holds.made) = refl in
-      let fits : room_needed plan ≤ spare = omega arith in
-      subst (λ (m : Managed). HasRoomLeft m.held spare) (sym holds.new_is) fits
 
   -- and it may be dropped: then all is as before
   pub unwritten : is_unwritten new.held ≡ true

@@ -17,19 +17,19 @@ use Rattle.batch_order.specs.CarriedOut.{Reverts, acted, acted_by, actions_left,
 use Rattle.batch_order.proofs.under_way.Stepped.{HasStepped, stepped, written_on, drained_on, written_back}
 
 -- what is left, forward and back
-due_on : (held : HeldCommit) → held.turned ≡ None → actions_due held ≡ held.actions
+pub due_on : (held : HeldCommit) → held.turned ≡ None → actions_due held ≡ held.actions
 due_on held turned = ap (λ (t : Option ℕ). elim t [ None ↦ held.actions | Some undone ↦ map Written held.undo ]) turned
 
-due_back : (held : HeldCommit) (undone : ℕ) → held.turned ≡ Some undone → actions_due held ≡ map Written held.undo
+pub due_back : (held : HeldCommit) (undone : ℕ) → held.turned ≡ Some undone → actions_due held ≡ map Written held.undo
 due_back held undone turned = ap (λ (t : Option ℕ). elim t [ None ↦ held.actions | Some undone ↦ map Written held.undo ]) turned
 
 -- an action as the manager makes it
-acted_forward : (now : Managed) (one : HeldCommit) (action : Action) → now.held ≡ Some one → one.turned ≡ None → acted_by now action ≡ forward_by now one action
+pub acted_forward : (now : Managed) (one : HeldCommit) (action : Action) → now.held ≡ Some one → one.turned ≡ None → acted_by now action ≡ forward_by now one action
 acted_forward now one action under turned =
     ap (λ (h : Option HeldCommit). elim h [ None ↦ now | Some held ↦ elim held.turned [ None ↦ forward_by now held action | Some undone ↦ back_by now held action ] ]) under
     ∙ ap (λ (t : Option ℕ). elim t [ None ↦ forward_by now one action | Some undone ↦ back_by now one action ]) turned
 
-acted_back : (now : Managed) (one : HeldCommit) (undone : ℕ) (action : Action) → now.held ≡ Some one → one.turned ≡ Some undone → acted_by now action ≡ back_by now one action
+pub acted_back : (now : Managed) (one : HeldCommit) (undone : ℕ) (action : Action) → now.held ≡ Some one → one.turned ≡ Some undone → acted_by now action ≡ back_by now one action
 acted_back now one undone action under turned =
     ap (λ (h : Option HeldCommit). elim h [ None ↦ now | Some held ↦ elim held.turned [ None ↦ forward_by now held action | Some undone ↦ back_by now held action ] ]) under
     ∙ ap (λ (t : Option ℕ). elim t [ None ↦ forward_by now one action | Some undone ↦ back_by now one action ]) turned
@@ -128,7 +128,7 @@ has_acted now words one made new action under acts (HasStepped.Back undone write
 has_acted now words one made new action under acts (HasStepped.Revert undone turned rest did is) = absurd (let clash : [] ≡ action ∷ [] = ap actions_of (sym did) ∙ acts in cc)
 
 -- a step of the commit that is under way
-over : (now new : Managed) (words : ℕ) (one : HeldCommit) (made : Step) → now.held ≡ Some one → Steps now words now.held made new → HasStepped now words one made new
+pub over : (now new : Managed) (words : ℕ) (one : HeldCommit) (made : Step) → now.held ≡ Some one → Steps now words now.held made new → HasStepped now words one made new
 over now new words one made under steps = stepped now words one made new (subst (λ (h : Option HeldCommit). Steps now words h made new) under steps)
 
 -- one action more

@@ -187,6 +187,19 @@ none_drained old words (Some held) new steps = go (stepped old words held step.D
     go (Back undone write undo turned rest did is) = absurd (let clash = did in cc)
     go (Revert undone turned rest did is) = absurd (let clash = did in cc)
 
+-- nor is one due where a step makes no action
+pub none_due : (old : Managed) (words : ℕ) (held : Option HeldCommit) (made : Step) (new : Managed) → actions_of made ≡ [] → Steps old words held made new → next_of held ≡ None
+none_due old words None made new none steps = refl
+none_due old words (Some held) made new none steps = go (stepped old words held made new steps)
+  where
+    go : HasStepped old words held made new → next_of (Some held) ≡ None
+    go (End turned actions did is) = next_on held turned ∙ ap due_write actions
+    go (On write actions turned rest did is) = absurd (let clash : Written write ∷ [] ≡ [] = ap actions_of (sym did) ∙ none in cc)
+    go (Drain actions turned rest did is) = absurd (let clash : Drained ∷ [] ≡ [] = ap actions_of (sym did) ∙ none in cc)
+    go (Wait actions more turned rest flying did is) = next_on held turned ∙ ap due_write rest
+    go (Back undone write undo turned rest did is) = absurd (let clash : Written write ∷ [] ≡ [] = ap actions_of (sym did) ∙ none in cc)
+    go (Revert undone turned rest did is) = next_back held undone turned ∙ ap (λ ws. slice_get ws 0) rest
+
 -- a commit that goes forward goes on so
 pub forward_after : (old : Managed) (words : ℕ) (held : Option HeldCommit) (made : Step) (new : Managed) → old.held ≡ held → Steps old words held made new → GoesForward held → GoesForward new.held
 forward_after old words None made new under steps forward =

@@ -2,7 +2,7 @@
 
 ghost use Rattle.std.specs.Prelude.{◌≡◌, ◌≤◌, IfOk};
 ghost use Rattle.rule_store.specs.declared.Mode.TheVariants as modes;
-ghost use Rattle.tcam_device.specs.State.{replay};
+ghost use Rattle.tcam_device.specs.View.{IsSameButSpare, device_state, journal};
 ghost use Rattle.commit_writes.specs.Bits as live_bits;
 ghost use Rattle.readback.specs.Fault.{AreSetBits};
 ghost use Rattle.batch_order.specs.CarriedOut.{GoesForward, HasRoomBothWays, HasRoomLeft};
@@ -84,20 +84,16 @@ impl Manager {
     ) -> Result<Manager, (RestartFault, Parts)>
         requires least { 1 ≤ slots }
         requires most { slots ≤ MOST_SLOTS }
-        requires slots { slots ≤ D.slot_count device.old }
-        requires plain { mode ≡ modes.Cover → HasBlankTables (replay (D.slot_count device.old) (D.journal device.old)) }
-        ensures answers { AnswersRestart slots mode placement parts batch.now (D.slot_count device.old) (replay (D.slot_count device.old) (D.journal device.old)) result }
-        ensures on { IfOk result (IsOn (D.slot_count device.new) (D.journal device.new)) }
-        ensures serves { IfOk result (λ manager. Serves (replay (D.slot_count device.new) (D.journal device.new)) manager.rules manager.held) }
-        ensures reserved { IfOk result (λ manager. HasRoomLeft manager.held (D.spare device.new)) }
-        ensures both_ways { IfOk result (λ manager. HasRoomBothWays manager.held (D.spare device.new)) }
+        requires slots { slots ≤ (D.view device.old).slots }
+        requires plain { mode ≡ modes.Cover → HasBlankTables (device_state (D.view device.old)) }
+        ensures answers { AnswersRestart slots mode placement parts batch.now (D.view device.old).slots (device_state (D.view device.old)) result }
+        ensures on { IfOk result (IsOn (D.view device.new).slots (journal (D.view device.new))) }
+        ensures serves { IfOk result (λ manager. Serves (device_state (D.view device.new)) manager.rules manager.held) }
+        ensures reserved { IfOk result (λ manager. HasRoomLeft manager.held (D.view device.new).spare) }
+        ensures both_ways { IfOk result (λ manager. HasRoomBothWays manager.held (D.view device.new).spare) }
         ensures forward { IfOk result (λ manager. GoesForward manager.held) }
-        ensures spare { D.spare device.old ≤ D.spare device.new }
-        ensures journal { D.journal device.new ≡ D.journal device.old }
-        ensures events { D.events device.new ≡ D.events device.old }
-        ensures flight { D.flight device.new ≡ D.flight device.old }
-        ensures slot_count { D.slot_count device.new ≡ D.slot_count device.old }
-        ensures faults { D.faults device.new ≡ D.faults device.old }
+        ensures spare { (D.view device.old).spare ≤ (D.view device.new).spare }
+        ensures others { IsSameButSpare (D.view device.old) (D.view device.new) }
     {
         match verdict(&parts.rules, batch, slots, mode) {
             Ok(()) => {}

@@ -10,6 +10,7 @@ ghost use Rattle.batch_order.specs.Entries.{AddsIds, HaveIds};
 ghost use Rattle.batch_order.specs.Placing.{aims_from};
 ghost use Rattle.batch_order.specs.Planning.{AreAllPlanned, ArePlannedSince, IsPlannable, all_writes};
 ghost use Rattle.batch_order.specs.Standing.{planned_twin};
+ghost use Rattle.tcam_device.specs.View.{IsSameButSpare};
 
 use crate::Placement;
 use crate::entries::LiveEntries;
@@ -103,14 +104,10 @@ pub(crate) fn plan_rest<D: Writable>(
         (aims_from placement mode (length arrangement.old) rules.now.rules (length live.old.live + length parts.now.inserted.items) made parts.now.inserted.items)
         parts.now.rewrites.items parts.now.erased.items) }
     ensures adds { IfOk result (λ ids. AddsIds live.old live.new ids.items) }
-    ensures enough { OnOk result (2 * length (all_writes plan.new.writes) + 1 ≤ D.spare device.new) }
+    ensures enough { OnOk result (2 * length (all_writes plan.new.writes) + 1 ≤ (D.view device.new).spare) }
     ensures slots { live.new.slots ≡ live.old.slots }
-    ensures least { D.spare device.old ≤ D.spare device.new }
-    ensures journal { D.journal device.new ≡ D.journal device.old }
-    ensures events { D.events device.new ≡ D.events device.old }
-    ensures flight { D.flight device.new ≡ D.flight device.old }
-    ensures slot_count { D.slot_count device.new ≡ D.slot_count device.old }
-    ensures faults { D.faults device.new ≡ D.faults device.old }
+    ensures least { (D.view device.old).spare ≤ (D.view device.new).spare }
+    ensures others { IsSameButSpare (D.view device.old) (D.view device.new) }
 {
     let ids = plan_insertions(
         alloc,

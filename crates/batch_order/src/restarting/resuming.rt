@@ -5,7 +5,8 @@ ghost use Rattle.std.specs.List.{AllByRecursion};
 ghost use Rattle.rule_store.specs.declared.Mode.TheVariants as modes;
 ghost use Rattle.rule_store.specs.Verdict.{Accepted, verdict};
 ghost use Rattle.rule_model.specs.Entry.{IsEncodable};
-ghost use Rattle.tcam_device.specs.State.{IsState, replay};
+ghost use Rattle.tcam_device.specs.State.{IsState};
+ghost use Rattle.tcam_device.specs.View.{IsSameButSpare, device_state};
 ghost use Rattle.readback.specs.Found.{IsShown};
 ghost use Rattle.readback.specs.Laws.{CanCommit};
 ghost use Rattle.readback.specs.Stage.{Finds};
@@ -58,26 +59,22 @@ pub(crate) fn resume<D: ReadBack>(
 ) -> Result<Resumed, AllocError>
     requires least { 1 ≤ slots }
     requires most { slots ≤ MOST_SLOTS }
-    requires slots { slots ≤ D.slot_count device.old }
-    requires plain { mode ≡ modes.Cover → HasBlankTables (replay (D.slot_count device.old) (D.journal device.old)) }
+    requires slots { slots ≤ (D.view device.old).slots }
+    requires plain { mode ≡ modes.Cover → HasBlankTables (device_state (D.view device.old)) }
     requires accepted { verdict slots mode parts.old.rules.rules batch.now ≡ Accepted }
     requires can { CanCommit mode (bits_in parts.old) parts.old.rules.rules batch.now }
-    requires is_state { IsState (D.slot_count device.old) (replay (D.slot_count device.old) (D.journal device.old)) }
-    requires found { Finds slots mode (bits_in parts.old) parts.old.rules.rules batch.now (replay (D.slot_count device.old) (D.journal device.old)) shown.now.stage }
-    requires shown { IsShown (commit_pieces mode (bits_in parts.old) parts.old.rules.rules batch.now) (replay (D.slot_count device.old) (D.journal device.old)).slots shown.now }
+    requires is_state { IsState (D.view device.old).slots (device_state (D.view device.old)) }
+    requires found { Finds slots mode (bits_in parts.old) parts.old.rules.rules batch.now (device_state (D.view device.old)) shown.now.stage }
+    requires shown { IsShown (commit_pieces mode (bits_in parts.old) parts.old.rules.rules batch.now) (device_state (D.view device.old)).slots shown.now }
     requires encodable { AllByRecursion (λ ranked. IsEncodable ranked.piece) (known_pieces (commit_pieces mode (bits_in parts.old) parts.old.rules.rules batch.now)) }
     ensures managed { IfOk result (λ made. IsManaged made.translation parts.new.rules made.live made.arrangement (Some made.held)) }
-    ensures resumes { IfOk result (λ made. Resumes slots mode placement parts.old batch.now (D.slot_count device.old) (replay (D.slot_count device.old) (D.journal device.old))
+    ensures resumes { IfOk result (λ made. Resumes slots mode placement parts.old batch.now (D.view device.old).slots (device_state (D.view device.old))
         (managed_by placement made.translation parts.new.rules made.live made.arrangement (Some made.held))) }
     ensures same { OnErr result (parts.new ≡ parts.old) }
-    ensures reserved { IfOk result (λ made. HasRoomLeft (managed_by placement made.translation parts.new.rules made.live made.arrangement (Some made.held)).held (D.spare device.new)) }
-    ensures both_ways { IfOk result (λ made. HasRoomBothWays (managed_by placement made.translation parts.new.rules made.live made.arrangement (Some made.held)).held (D.spare device.new)) }
-    ensures spare { D.spare device.old ≤ D.spare device.new }
-    ensures journal { D.journal device.new ≡ D.journal device.old }
-    ensures events { D.events device.new ≡ D.events device.old }
-    ensures flight { D.flight device.new ≡ D.flight device.old }
-    ensures slot_count { D.slot_count device.new ≡ D.slot_count device.old }
-    ensures faults { D.faults device.new ≡ D.faults device.old }
+    ensures reserved { IfOk result (λ made. HasRoomLeft (managed_by placement made.translation parts.new.rules made.live made.arrangement (Some made.held)).held (D.view device.new).spare) }
+    ensures both_ways { IfOk result (λ made. HasRoomBothWays (managed_by placement made.translation parts.new.rules made.live made.arrangement (Some made.held)).held (D.view device.new).spare) }
+    ensures spare { (D.view device.old).spare ≤ (D.view device.new).spare }
+    ensures others { IsSameButSpare (D.view device.old) (D.view device.new) }
 {
     let twin = shown.stage.twin;
     let mut standing = standing_in(alloc, slots, &shown.places, twin)?;
@@ -183,19 +180,15 @@ fn plan_all<D: ReadBack>(
     standing: &mut Standing,
     device: &mut D,
 ) -> Result<Rest, AllocError>
-    requires stopped { IsStopped (length standing.old.arrangement) mode (bits_of translation.now) rules.now.rules batch.now (replay (D.slot_count device.old) (D.journal device.old)) shown.now }
+    requires stopped { IsStopped (length standing.old.arrangement) mode (bits_of translation.now) rules.now.rules batch.now (device_state (D.view device.old)) shown.now }
     requires mode { mode_of translation.now ≡ mode }
-    requires tables { tables_of translation.now ≡ record (replay (D.slot_count device.old) (D.journal device.old)) { slots = [] } }
-    requires read { IsReadAgain mode (bits_of translation.now) rules.now.rules batch.now (replay (D.slot_count device.old) (D.journal device.old)) shown.now standing.old.live standing.old.arrangement }
-    ensures planned { IfOk result (IsPlannedOn placement (D.slot_count device.old) mode (bits_of translation.now) rules.now.rules batch.now
-        (replay (D.slot_count device.old) (D.journal device.old)) shown.now standing.old.live standing.new.live standing.old.arrangement standing.new.arrangement) }
-    ensures enough { IfOk result (λ rest. 2 * length (all_writes rest.plan.writes) + 1 ≤ D.spare device.new) }
-    ensures least { D.spare device.old ≤ D.spare device.new }
-    ensures journal { D.journal device.new ≡ D.journal device.old }
-    ensures events { D.events device.new ≡ D.events device.old }
-    ensures flight { D.flight device.new ≡ D.flight device.old }
-    ensures slot_count { D.slot_count device.new ≡ D.slot_count device.old }
-    ensures faults { D.faults device.new ≡ D.faults device.old }
+    requires tables { tables_of translation.now ≡ record (device_state (D.view device.old)) { slots = [] } }
+    requires read { IsReadAgain mode (bits_of translation.now) rules.now.rules batch.now (device_state (D.view device.old)) shown.now standing.old.live standing.old.arrangement }
+    ensures planned { IfOk result (IsPlannedOn placement (D.view device.old).slots mode (bits_of translation.now) rules.now.rules batch.now
+        (device_state (D.view device.old)) shown.now standing.old.live standing.new.live standing.old.arrangement standing.new.arrangement) }
+    ensures enough { IfOk result (λ rest. 2 * length (all_writes rest.plan.writes) + 1 ≤ (D.view device.new).spare) }
+    ensures least { (D.view device.old).spare ≤ (D.view device.new).spare }
+    ensures others { IsSameButSpare (D.view device.old) (D.view device.new) }
 {
     let mut plan = Plan::new(alloc);
     let bits = plan_words(translation, batch, &mut plan)?;

@@ -2,7 +2,7 @@
 
 ghost use Rattle.std.specs.Prelude.{◌≡◌, [], IfOk};
 ghost use Rattle.rule_store.specs.declared.Mode.TheVariants as modes;
-ghost use Rattle.tcam_device.specs.State.{replay};
+ghost use Rattle.tcam_device.specs.View.{device_state};
 ghost use Rattle.commit_writes.specs.Bits as live_bits;
 ghost use Rattle.batch_order.specs.Kept.{bits_of, mode_of, tables_of};
 ghost use Rattle.batch_order.specs.Restart.{bits_in};
@@ -25,7 +25,7 @@ pub(crate) fn read_translation<D: ReadBack>(
 ) -> Result<Option<Translation>, AllocError>
     ensures mode { IfOk result (λ kept. mode_of kept ≡ mode) }
     ensures bits { IfOk result (λ kept. mode ≡ modes.Bits → bits_of kept ≡ bits_in parts.now) }
-    ensures tables { IfOk result (λ kept. mode ≡ modes.Bits → tables_of kept ≡ record (replay (D.slot_count device.now) (D.journal device.now)) { slots = [] }) }
+    ensures tables { IfOk result (λ kept. mode ≡ modes.Bits → tables_of kept ≡ record (device_state (D.view device.now)) { slots = [] }) }
 {
     match mode {
         Mode::Cover => Ok(None),

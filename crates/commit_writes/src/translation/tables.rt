@@ -2,7 +2,8 @@
 
 ghost use Rattle.std.specs.Prelude.{◌≡◌, true, [], ℕ, ◌+◌, ◌<◌, ◌≤◌, ◌^◌, ◌*◌, ◌++◌, IfOk, OnOk, length, slice_index};
 ghost use Rattle.tcam_device.specs.Insertion.{is_table_write};
-ghost use Rattle.tcam_device.specs.State.{apply, blank, replay, table_of};
+ghost use Rattle.tcam_device.specs.State.{apply, blank, table_of};
+ghost use Rattle.tcam_device.specs.View.{device_state};
 ghost use Rattle.commit_writes.specs.Shape as shape;
 ghost use Rattle.commit_writes.specs.Shape.{bit_writes, field_writes};
 ghost use Rattle.commit_writes.specs.Undo.{restoring};
@@ -76,7 +77,7 @@ impl Tables {
 
     /// The tables as they stand in a device. It fails only for want of memory, of 256 KiB.
     pub fn read_back<D: ReadBack>(alloc: Global, device: &D) -> Result<Tables, AllocError>
-        ensures { IfOk result (λ tables. tables ≡ record (replay (D.slot_count device.now) (D.journal device.now)) { slots = [] }) }
+        ensures { IfOk result (λ tables. tables ≡ record (device_state (D.view device.now)) { slots = [] }) }
     {
         let src = read_table(alloc, Field::Src, device)?;
         let dst = read_table(alloc, Field::Dst, device)?;
@@ -145,7 +146,7 @@ impl Tables {
 
 /// The words of a field's table as they stand in a device.
 fn read_table<D: ReadBack>(alloc: Global, field: Field, device: &D) -> Result<Vec<u16>, AllocError>
-    ensures words { IfOk result (λ words. words.items ≡ table_of field (replay (D.slot_count device.now) (D.journal device.now))) }
+    ensures words { IfOk result (λ words. words.items ≡ table_of field (device_state (D.view device.now))) }
     ensures short { IfOk result (λ words. (port : ℕ) → slice_index words.items port < 2 ^ 16) }
 {
     let mut words = Vec::with_capacity(alloc, PORTS)?;

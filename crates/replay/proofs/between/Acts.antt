@@ -23,11 +23,11 @@ use Rattle.replay.specs.Run.{Progress, Commits, Tries, Crashes, Refuses, Judged,
 use Rattle.replay.specs.Reports.{packet_told, refusal_line}
 use Rattle.replay.specs.Text.{packet_line}
 use Rattle.report_lines.specs.Outside.{AppendsPart}
-use Rattle.replay.specs.Running.{Running, IsUntouched, ShowsRules, ComesTo, setting_of, progress_of, verdict_of}
+use Rattle.replay.specs.Running.{Running, NothingIsDone, ShowsRules, ComesTo, setting_of, progress_of, verdict_of}
 use Rattle.replay.proofs.lines.Effects.{does-line, does-part, does-nothing}
 
 -- nothing was done
-undone : (run new : Running) (events : List Action) (taken : Option (List ℕ)) → new ≡ run → IsUntouched run new events events taken taken
+undone : (run new : Running) (events : List Action) (taken : Option (List ℕ)) → new ≡ run → NothingIsDone run new events events taken taken
 undone run new events taken same = record { run = same; events = refl; report = refl }
 
 -- and memory was wanting

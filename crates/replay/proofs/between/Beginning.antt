@@ -12,7 +12,7 @@ use Rattle.replay.specs.declared.fate.Fate.TheVariants.{ToTheEnd}
 use Rattle.replay.specs.Effects.{Effect, Prints, events_in, printed}
 use Rattle.replay.specs.Reports.{opened}
 use Rattle.replay.specs.Run.{Progress}
-use Rattle.replay.specs.Outside.{CutsLines}
+use Rattle.replay.specs.Outside.{CutsLines, outside}
 use Rattle.replay.specs.Carried.{Does}
 use Rattle.replay.specs.Crashing.{HasMoreThan}
 use Rattle.replay.specs.Fates.{commit_act, crash_of}
@@ -36,8 +36,8 @@ does-behind lines more partial events_old events_new old mid new none told does 
 
 -- what comes of a commit behind the lines that were told of it comes of it with them
 pub resumes-behind : (result : Result (Unit {0}) RunFault) (slots : ℕ) (before : Progress) (act : Act) (lines : List Effect) (new : Running) (events_old events_new : List Action) (flight : Flight) (old mid taken : Option (List ℕ))
-    → events_in lines ≡ [] → Appends old mid (printed lines) → ResumesTo slots before act lines new result events_old events_new flight mid taken
-    → ResumesTo slots before act [] new result events_old events_new flight old taken
+    → events_in lines ≡ [] → Appends old mid (printed lines) → ResumesTo slots before act lines new result (outside events_old mid) (outside events_new taken) flight
+    → ResumesTo slots before act [] new result (outside events_old old) (outside events_new taken) flight
 resumes-behind (Ok done) slots before act lines new events_old events_new flight old mid taken none told ends = record {
   rest = lines ++ ends.rest;
   step = ends.step;
@@ -92,7 +92,7 @@ module _ (slots : ℕ) (before : Progress) (run : Running) (unfinished : IsUnfin
   rest : Rest slots before lines run
   rest = rest-of slots before lines run unfinished is inside no_crash
 
-  pub opening-breaks : BreaksOff slots before (commit_act run.fate) [] run events events old taken
+  pub opening-breaks : BreaksOff slots before (commit_act run.fate) [] run (outside events old) (outside events taken)
   opening-breaks =
       let course = rest.course in
       let behind = later slots before lines run course course.left in

@@ -36,9 +36,9 @@ use Rattle.replay.specs.Run.{Progress, HasEffects, IsCutStep, TakesMemory}
 use Rattle.replay.specs.Crashing.{memory_wanted}
 use Rattle.report_lines.specs.Told.{verdict_told}
 use Rattle.report_lines.specs.Outside.{AppendsPart}
-use Rattle.replay.specs.Outside.{CutsLines}
+use Rattle.replay.specs.Outside.{CutsLines, outside}
 use Rattle.replay.specs.Carried.{IsAt}
-use Rattle.replay.specs.Running.{Running, Watching, HasCome, IsRun, IsHalfway, IsMidCommit, ComesTo, Makes, MakesAll, MakesSome, ShowsRules, TellsActions, act_outcome_of, sink_failed, ended_line, watching, setting_of, progress_of, routes_of, verdict_of}
+use Rattle.replay.specs.Running.{Running, Watching, HasCome, IsRun, IsHalfway, IsMidCommit, ComesTo, Makes, MakesAll, MakesSome, ShowsRules, TellsActions, act_outcome_of, sink_failed, ended_line, watching, setting_of, progress_of, routes_of, verdict_of, snapshot}
 use Rattle.replay.specs.declared.fate.Fate.{Fate}
 use Rattle.replay.specs.declared.fate.Fate.TheVariants as fates
 use Rattle.replay.specs.Fates.{IsFirst, IsToCrash, commit_act, most_of}
@@ -53,7 +53,7 @@ use Rattle.replay.proofs.between.Acts.{WantsBy, run_refused, refuse-carries, ref
 
 -- some of its actions were made, and it was cut at a line or at a write
 pub cut-some : (why : RunFault) (Seen : Type 0) (most : Option ℕ) (begun now : Managed) (watch : Watching) (slots : ℕ) (count count_now : Count) (events_old events_new : List Action) (old taken : Option (List ℕ))
-    → Makes Seen most begun now watch slots count count_now (Err why) events_old events_new old taken
+    → Makes Seen most watch slots (snapshot begun count (outside events_old old)) (snapshot now count_now (outside events_new taken)) (Err why)
     → (some : MakesSome most count.told begun now) × HasCome watch count count_now some.made × ((why ≡ fault.Sink) ⊎ (why ≡ fault.Device))
 cut-some why Seen most begun now watch slots count count_now events_old events_new old taken (inl (sink, stops)) = (stops.some, stops.come, inl sink)
 cut-some why Seen most begun now watch slots count count_now events_old events_new old taken (inr (device, stops)) = (stops.some, stops.come, inr device)
@@ -61,7 +61,7 @@ cut-some why Seen most begun now watch slots count count_now events_old events_n
 -- a run whose commit was cut
 pub cut-held : (why : RunFault) (Seen : Type 0) (slots slots_made : ℕ) (before : Progress) (front : List Effect) (run : Running) (rest : Rest slots before front run) (now : Managed) (count_now : Count)
     (events_old events_new : List Action) (old taken : Option (List ℕ)) → IsRun run → run.manager.slots ≤ slots
-    → Makes Seen (most_of run.fate) run.manager now (watching run) slots_made (count_of run) count_now (Err why) events_old events_new old taken → IsRun (record run { manager = now; told = count_now.told; waiting = count_now.waiting })
+    → Makes Seen (most_of run.fate) (watching run) slots_made (snapshot run.manager (count_of run) (outside events_old old)) (snapshot now count_now (outside events_new taken)) (Err why) → IsRun (record run { manager = now; told = count_now.told; waiting = count_now.waiting })
 cut-held why Seen slots slots_made before front run rest now count_now events_old events_new old taken is within makes =
     let cut = cut-some why Seen (most_of run.fate) run.manager now (watching run) slots_made (count_of run) count_now events_old events_new old taken makes in
     let now_slots : now.slots ≡ run.manager.slots = some-slots (most_of run.fate) run.told run.manager now cut.0 in
@@ -72,7 +72,7 @@ cut-held why Seen slots slots_made before front run rest now count_now events_ol
     under-way new inside (inr stands) = inr (slots, inside, stands.onward)
 
 pub cut-setting : (why : RunFault) (Seen : Type 0) (run : Running) (now : Managed) (slots : ℕ) (count_now : Count) (events_old events_new : List Action) (old taken : Option (List ℕ))
-    → IsRun run → Makes Seen (most_of run.fate) run.manager now (watching run) slots (count_of run) count_now (Err why) events_old events_new old taken
+    → IsRun run → Makes Seen (most_of run.fate) (watching run) slots (snapshot run.manager (count_of run) (outside events_old old)) (snapshot now count_now (outside events_new taken)) (Err why)
     → setting_of (record run { manager = now; told = count_now.told; waiting = count_now.waiting }) ≡ setting_of run
 cut-setting why Seen run now slots count_now events_old events_new old taken is makes =
     let cut = cut-some why Seen (most_of run.fate) run.manager now (watching run) slots (count_of run) count_now events_old events_new old taken makes in
@@ -95,13 +95,13 @@ module _ (slots : ℕ) (before : Progress) (front : List Effect) (inside run : R
 
   -- what going on comes to where it is cut
   pub resumes-cut : (why : RunFault) (now : Managed) (count : Count) (flight_new : Flight) (old taken : Option (List ℕ))
-      → Makes Seen (most_of inside.fate) inside.manager now (watching inside) slots (count_of inside) count (Err why) events_old events_new old taken → (why ≡ fault.Device → AreCurrent (live_now now) flight_new)
-      → ResumesTo slots before (commit_act run.fate) front (record inside { manager = now; told = count.told; waiting = count.waiting }) (Err why) events_old events_new flight_new old taken
+      → Makes Seen (most_of inside.fate) (watching inside) slots (snapshot inside.manager (count_of inside) (outside events_old old)) (snapshot now count (outside events_new taken)) (Err why) → (why ≡ fault.Device → AreCurrent (live_now now) flight_new)
+      → ResumesTo slots before (commit_act run.fate) front (record inside { manager = now; told = count.told; waiting = count.waiting }) (Err why) (outside events_old old) (outside events_new taken) flight_new
   resumes-cut why now count flight_new old taken (inr (device, stops)) current_new =
       let new = record inside { manager = now; told = count.told; waiting = count.waiting } in
       let made = stops.some.made in
-      subst (λ one. ResumesTo slots before (commit_act run.fate) front new (Err one) events_old events_new flight_new old taken) (sym device)
-      (subst (λ (r : Running). StaysUnfinished slots before (commit_act r.fate) front new events_old events_new flight_new old taken) same
+      subst (λ one. ResumesTo slots before (commit_act run.fate) front new (Err one) (outside events_old old) (outside events_new taken) flight_new) (sym device)
+      (subst (λ (r : Running). StaysUnfinished slots before (commit_act r.fate) front new (outside events_old old) (outside events_new taken) flight_new) same
       (stays slots before front inside rest.course events_old events_new at-inside new made stops.left stops.due flight_new old taken
       (rest.part now stops.some ∙ ap (λ left. made ++ left) stops.left_is)
       (ap (λ (manager : Managed). setting_of (record inside { manager = manager })) stops.some.now_is)
@@ -112,14 +112,14 @@ module _ (slots : ℕ) (before : Progress) (front : List Effect) (inside run : R
       (current_new device)))
   resumes-cut why now count flight_new old taken (inl (sink, stops)) current_new =
       let new = record inside { manager = now; told = count.told; waiting = count.waiting } in
-      subst (λ one. ResumesTo slots before (commit_act run.fate) front new (Err one) events_old events_new flight_new old taken) (sym sink)
-      (subst (λ (r : Running). BreaksOff slots before (commit_act r.fate) front new events_old events_new old taken) same
+      subst (λ one. ResumesTo slots before (commit_act run.fate) front new (Err one) (outside events_old old) (outside events_new taken) flight_new) (sym sink)
+      (subst (λ (r : Running). BreaksOff slots before (commit_act r.fate) front new (outside events_old old) (outside events_new taken)) same
       (breaks slots before front inside rest.course events_old events_new at-inside new (stops.some.made ++ stops.some.left) [] old taken
       (rest.part now stops.some ∙ sym (append-nil (stops.some.made ++ stops.some.left)))
       (ap (λ (manager : Managed). setting_of (record inside { manager = manager })) stops.some.now_is)
       (stops.cuts is-seen)))
 
-  module _ (end : Ended) (now : Managed) (count : Count) (old mid : Option (List ℕ)) (all : MakesAll Seen (most_of inside.fate) inside.manager (watching inside) slots (count_of inside) count end now events_old events_new old mid)
+  module _ (end : Ended) (now : Managed) (count : Count) (old mid : Option (List ℕ)) (all : MakesAll Seen (most_of inside.fate) (watching inside) slots (snapshot inside.manager (count_of inside) (outside events_old old)) end (snapshot now count (outside events_new mid)))
       (counted : Running) (closed : counted ≡ record inside { manager = now; told = 0; waiting = 0; fate = fates.ToTheEnd; pending = []; commits = inside.commits + 1 }) where
     abbrev run_now : Running
     run_now = record counted { writes = counted.writes + count.told }
@@ -173,13 +173,13 @@ module _ (slots : ℕ) (before : Progress) (front : List Effect) (inside run : R
 
     -- as the run that it ended with does it, so does this one
     abbrev Breaks : Running → Fate → Option (List ℕ) → Type 0
-    Breaks new fate taken = BreaksOff slots before (commit_act fate) front new events_old events_new old taken
+    Breaks new fate taken = BreaksOff slots before (commit_act fate) front new (outside events_old old) (outside events_new taken)
 
     as-now : (taken : Option (List ℕ)) → Breaks rest.ended inside.fate taken → Breaks run_now run.fate taken
     as-now taken broken = subst (λ (r : Running). Breaks run_now r.fate taken) same (subst (λ (r : Running). Breaks r inside.fate taken) (sym new-is) broken)
 
     -- where one of them is cut
-    pub resumes-searching : (taken : Option (List ℕ)) (flight_new : Flight) → CutsLines last_told mid taken → ResumesTo slots before (commit_act run.fate) front run_now (Err fault.Sink) events_old events_new flight_new old taken
+    pub resumes-searching : (taken : Option (List ℕ)) (flight_new : Flight) → CutsLines last_told mid taken → ResumesTo slots before (commit_act run.fate) front run_now (Err fault.Sink) (outside events_old old) (outside events_new taken) flight_new
     resumes-searching taken flight_new cuts =
         as-now taken
         (breaks-searching slots before front inside rest.course rest.line rest.ended rest.ending events_old events_new at-inside old mid grown-left told-left taken (subst (λ lines. CutsLines lines mid taken) last-same cuts))
@@ -189,14 +189,14 @@ module _ (slots : ℕ) (before : Progress) (front : List Effect) (inside run : R
       last-told = subst (λ lines. Appends mid searched (printed lines)) last-same last
 
       -- where it is finished, and its line is written
-      pub resumes-all : (taken : Option (List ℕ)) (flight_new : Flight) → Appends searched taken (ended_line counted.json counted.commits inside.fate end count.told) → ResumesTo slots before (commit_act run.fate) front run_now (Ok tt) events_old events_new flight_new old taken
+      pub resumes-all : (taken : Option (List ℕ)) (flight_new : Flight) → Appends searched taken (ended_line counted.json counted.commits inside.fate end count.told) → ResumesTo slots before (commit_act run.fate) front run_now (Ok tt) (outside events_old old) (outside events_new taken) flight_new
       resumes-all taken flight_new more =
-          subst (λ (r : Running). Finishes slots before (commit_act r.fate) front run_now events_old events_new old taken) same
-          (subst (λ (r : Running). Finishes slots before (commit_act inside.fate) front r events_old events_new old taken) (sym new-is)
+          subst (λ (r : Running). Finishes slots before (commit_act r.fate) front run_now (outside events_old old) (outside events_new taken)) same
+          (subst (λ (r : Running). Finishes slots before (commit_act inside.fate) front r (outside events_old old) (outside events_new taken)) (sym new-is)
           (finishes slots before front inside rest.course rest.line rest.ended rest.ending events_old events_new at-inside old mid grown-left told-left searched taken last-told (subst (Appends searched taken) own-same more)))
 
       -- or a part of it
-      pub resumes-last : (taken : Option (List ℕ)) (flight_new : Flight) → AppendsPart searched taken (ended_line counted.json counted.commits inside.fate end count.told) → ResumesTo slots before (commit_act run.fate) front run_now (Err fault.Sink) events_old events_new flight_new old taken
+      pub resumes-last : (taken : Option (List ℕ)) (flight_new : Flight) → AppendsPart searched taken (ended_line counted.json counted.commits inside.fate end count.told) → ResumesTo slots before (commit_act run.fate) front run_now (Err fault.Sink) (outside events_old old) (outside events_new taken) flight_new
       resumes-last taken flight_new part =
           as-now taken
           (breaks-last slots before front inside rest.course rest.line rest.ended rest.ending events_old events_new at-inside old mid grown-left told-left searched taken last-told (subst (AppendsPart searched taken) own-same part))
@@ -274,12 +274,12 @@ module _ (inside : Running) (counts : Done) (manager : Managed) (is : IsRun insi
     abbrev Goes : Result (Unit {0}) RunFault → Type 0
     Goes result =
         (before : Progress) → IsUnfinished slots before told_first (record inside { manager = manager; fate = fate })
-        → IsAt slots events_old (progress_of slots (record inside { manager = manager; fate = fate })) → AreCurrent (live_now manager) flight → ResumesTo slots before (commit_act fate) [] new result events_old events_new flight_new old taken
+        → IsAt slots events_old (progress_of slots (record inside { manager = manager; fate = fate })) → AreCurrent (live_now manager) flight → ResumesTo slots before (commit_act fate) [] new result (outside events_old old) (outside events_new taken) flight_new
 
-    begins : (result : Result (Unit {0}) RunFault) → Goes result → IsAt slots events_old (progress_of slots run) → ResumesTo slots (progress_of slots run) (commit_act fate) [] new result events_old events_new flight_new old taken
+    begins : (result : Result (Unit {0}) RunFault) → Goes result → IsAt slots events_old (progress_of slots run) → ResumesTo slots (progress_of slots run) (commit_act fate) [] new result (outside events_old old) (outside events_new taken) flight_new
     begins result goes at =
         let at_inside = subst (λ (r : Running). IsAt slots events_old (progress_of slots r)) (sym same) at in
-        subst (λ (r : Running). ResumesTo slots (progress_of slots r) (commit_act fate) [] new result events_old events_new flight_new old taken) same
+        subst (λ (r : Running). ResumesTo slots (progress_of slots r) (commit_act fate) [] new result (outside events_old old) (outside events_new taken) flight_new) same
         (goes (progress_of slots inside) (taken-unfinished slots)
         (subst (λ (m : Managed). IsAt slots events_old (progress_of slots (record inside { manager = m; fate = fate }))) (sym holds.new_is) at_inside)
         (subst (AreCurrent (live_now manager)) (sym none) tt))
@@ -323,8 +323,8 @@ module _ (inside : Running) (counts : Done) (manager : Managed) (is : IsRun insi
         }))
 
     pub taken-stays : (result : Result (Unit {0}) RunFault) → Goes result → result ≡ Err fault.Device → IsAt slots events_old (progress_of slots run)
-        → StaysUnfinished slots (progress_of slots run) (commit_act fate) [] new events_old events_new flight_new old taken
-    taken-stays result goes cut at = subst (λ one. ResumesTo slots (progress_of slots run) (commit_act fate) [] new one events_old events_new flight_new old taken) cut (begins result goes at)
+        → StaysUnfinished slots (progress_of slots run) (commit_act fate) [] new (outside events_old old) (outside events_new taken) flight_new
+    taken-stays result goes cut at = subst (λ one. ResumesTo slots (progress_of slots run) (commit_act fate) [] new one (outside events_old old) (outside events_new taken) flight_new) cut (begins result goes at)
 
 -- the mark of a sink that failed changes nothing else
 pub marked-same : (result : Result (Unit {0}) RunFault) (mid new : Running) → new ≡ record mid { broken = mid.broken || sink_failed (act_outcome_of result) } → mid.broken ≡ memory_wanted result → result ≢ Err fault.Sink → new ≡ mid
@@ -334,13 +334,13 @@ marked-same (Err fault.Device) mid new is whole other = is ∙ ap (λ mark. reco
 marked-same (Err fault.Memory) mid new is whole other = is ∙ ap (λ mark. record mid { broken = mark || false }) whole ∙ ap (λ mark. record mid { broken = mark }) (sym whole)
 
 pub marked-resumes : (result : Result (Unit {0}) RunFault) (slots : ℕ) (before : Progress) (act : Act) (front : List Effect) (mid new : Running) (events_old events_new : List Action) (flight : Flight) (old taken : Option (List ℕ))
-    → new ≡ record mid { broken = mid.broken || sink_failed (act_outcome_of result) } → mid.broken ≡ memory_wanted result → ResumesTo slots before act front mid result events_old events_new flight old taken → ResumesTo slots before act front new result events_old events_new flight old taken
+    → new ≡ record mid { broken = mid.broken || sink_failed (act_outcome_of result) } → mid.broken ≡ memory_wanted result → ResumesTo slots before act front mid result (outside events_old old) (outside events_new taken) flight → ResumesTo slots before act front new result (outside events_old old) (outside events_new taken) flight
 marked-resumes (Ok done) slots before act front mid new events_old events_new flight old taken is whole ends =
-    subst (λ (run : Running). ResumesTo slots before act front run (Ok done) events_old events_new flight old taken) (sym (marked-same (Ok done) mid new is whole (λ e. absurd (cc)))) ends
+    subst (λ (run : Running). ResumesTo slots before act front run (Ok done) (outside events_old old) (outside events_new taken) flight) (sym (marked-same (Ok done) mid new is whole (λ e. absurd (cc)))) ends
 marked-resumes (Err fault.Device) slots before act front mid new events_old events_new flight old taken is whole ends =
-    subst (λ (run : Running). ResumesTo slots before act front run (Err fault.Device) events_old events_new flight old taken) (sym (marked-same (Err fault.Device) mid new is whole (λ e. absurd (cc)))) ends
+    subst (λ (run : Running). ResumesTo slots before act front run (Err fault.Device) (outside events_old old) (outside events_new taken) flight) (sym (marked-same (Err fault.Device) mid new is whole (λ e. absurd (cc)))) ends
 marked-resumes (Err fault.Memory) slots before act front mid new events_old events_new flight old taken is whole ends =
-    subst (λ (run : Running). ResumesTo slots before act front run (Err fault.Memory) events_old events_new flight old taken) (sym (marked-same (Err fault.Memory) mid new is whole (λ e. absurd (cc)))) ends
+    subst (λ (run : Running). ResumesTo slots before act front run (Err fault.Memory) (outside events_old old) (outside events_new taken) flight) (sym (marked-same (Err fault.Memory) mid new is whole (λ e. absurd (cc)))) ends
 marked-resumes (Err fault.Sink) slots before act front mid new events_old events_new flight old taken is whole ends = record {
   more = ends.more;
   partial = ends.partial;

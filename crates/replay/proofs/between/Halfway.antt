@@ -23,9 +23,10 @@ use Rattle.replay.specs.Effects.{waiting_after}
 use Rattle.replay.specs.declared.fate.Fate.{Fate}
 use Rattle.replay.specs.declared.fate.Fate.TheVariants.{ToTheEnd, BackAfter, CrashAfter, RestartedAfter}
 use Rattle.replay.specs.Fates.{IsBefore, IsFirst, IsWithinCrash, crash_of, most_of}
-use Rattle.replay.specs.Running.{Running, Watching, EndsBy, HasCome, IsRun, IsHalfway, IsMidCommit, MakesAll, MakesSome, MayTurnBack, ShowsRules, ended_line, finished_line, goes_back, actions_left, trial_rest, setting_of, routes_of, trial_left, verdict_of, watching}
+use Rattle.replay.specs.Running.{Running, Watching, EndsBy, HasCome, IsRun, IsHalfway, IsMidCommit, MakesAll, MakesSome, MayTurnBack, ShowsRules, ended_line, finished_line, goes_back, actions_left, trial_rest, setting_of, routes_of, trial_left, verdict_of, watching, snapshot}
 use Rattle.replay.specs.Reports.{done_line}
 use Rattle.replay.specs.Text.{aborted_line}
+use Rattle.replay.specs.Outside.{outside}
 use Rattle.replay.proofs.making.Acting.{some-held}
 use Rattle.replay.proofs.course.Course.{count_of}
 use Rattle.replay.proofs.making.Upto.{before-none}
@@ -245,7 +246,7 @@ cut-run run now count is some under_way = record {
 
 -- once the actions that were left are made
 module _ (Seen : Type 0) (run : Running) (half : IsHalfway run) (watch : Watching) (slots : ℕ) (count_now : Count) (end : Ended) (now : Managed) (events events_now : List Action) (taken taken_now : Option (List ℕ))
-    (all : MakesAll Seen (most_of run.fate) run.manager watch slots (count_of run) count_now end now events events_now taken taken_now) where
+    (all : MakesAll Seen (most_of run.fate) watch slots (snapshot run.manager (count_of run) (outside events taken)) end (snapshot now count_now (outside events_now taken_now))) where
   held-one : all.held ≡ half.some.one
   held-one =
       let both : Some all.held ≡ Some half.some.one = sym all.held_is ∙ some-held (most_of run.fate) 0 half.begun run.manager half.some in

@@ -23,6 +23,7 @@ use Rattle.replay.specs.Fates.{AnswersBroken, AnswersLost, IsCrash, IsToCrash, c
 use Rattle.replay.specs.InFlight.{IsSeen}
 use Rattle.replay.specs.Running.{ComesTo, IsRun, Running, act_outcome_of, sink_failed, progress_of}
 use Rattle.replay.specs.Unfinished.{StaysInStep, StaysUnfinished}
+use Rattle.replay.specs.Outside.{outside}
 
 or-none : (a b : Bool) → (a || b) ≡ false → (a ≡ false) × (b ≡ false)
 or-none false b none = (refl, none)
@@ -156,7 +157,7 @@ comes-marked (Err (Held left)) slots old act mid new events_old events_new taken
     subst (λ (run : Running). ComesTo slots old act run (Err (Held left)) events_old events_new taken_old taken_new) (sym (marked-kept (Err (Held left)) mid new is refl)) comes
 
 pub stays-marked : (result : Result (Unit {0}) ActFault) (slots : ℕ) (before : Progress) (act : Act) (front : List Effect) (mid new : Running) (events_old events_new : List Action) (flight : Flight) (taken_old taken_new : Option (List ℕ))
-    → new ≡ record mid { broken = mid.broken || sink_failed result } → result ≡ Err (Stopped fault.Device) → StaysUnfinished slots before act front mid events_old events_new flight taken_old taken_new
-    → StaysUnfinished slots before act front new events_old events_new flight taken_old taken_new
+    → new ≡ record mid { broken = mid.broken || sink_failed result } → result ≡ Err (Stopped fault.Device) → StaysUnfinished slots before act front mid (outside events_old taken_old) (outside events_new taken_new) flight
+    → StaysUnfinished slots before act front new (outside events_old taken_old) (outside events_new taken_new) flight
 stays-marked result slots before act front mid new events_old events_new flight taken_old taken_new is cut stays =
-    subst (λ (run : Running). StaysUnfinished slots before act front run events_old events_new flight taken_old taken_new) (sym (marked-kept result mid new is (ap sink_failed cut))) stays
+    subst (λ (run : Running). StaysUnfinished slots before act front run (outside events_old taken_old) (outside events_new taken_new) flight) (sym (marked-kept result mid new is (ap sink_failed cut))) stays

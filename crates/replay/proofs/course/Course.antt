@@ -19,7 +19,7 @@ use Rattle.replay.specs.declared.watch.Count.{Count}
 use Rattle.replay.specs.Effects.{Setting, Effect, Acts, Prints, events_in, printed, probes_told, write_told, searched_after, flushed, waiting_after, effects_of}
 use Rattle.replay.specs.Run.{Progress, HasEffects, IsCutStep, carried, carried_so_far}
 use Rattle.report_lines.specs.Outside.{AppendsPart}
-use Rattle.replay.specs.Outside.{CutsLines}
+use Rattle.replay.specs.Outside.{CutsLines, outside}
 use Rattle.replay.specs.Carried.{CutsEffects, Does, IsAt}
 use Rattle.replay.specs.Fates.{commit_act}
 use Rattle.replay.specs.Running.{Running, TellsActions, effects_on, watching, setting_of, progress_of}
@@ -106,7 +106,7 @@ module _ (slots : ℕ) (before : Progress) (front : List Effect) (run : Running)
     pub stays : (new : Running) (made rest : List Action) (due : Write) (flight : Flight) (old taken : Option (List ℕ)) → course.left ≡ made ++ Written due ∷ rest → setting_of new ≡ setting_of run → new.fate ≡ run.fate
         → new.manager.state ≡ state_after run.manager.state (writes_in made) → next_of new.manager.held ≡ Some due → events_new ≡ events ++ made
         → TellsActions run.manager (watching run) slots (count_of run) events made old taken → IsUnfinished slots before (front ++ later made) new → AreCurrent (live_now new.manager) flight
-        → StaysUnfinished slots before (commit_act run.fate) front new events events_new flight old taken
+        → StaysUnfinished slots before (commit_act run.fate) front new (outside events old) (outside events_new taken) flight
     stays new made rest due flight old taken left setting fate state next grown told unfinished current =
         let ahead = state_after (on_device slots run.manager.state) (writes_in made) in
         let number = run.told + length (writes_in made) in
@@ -129,7 +129,7 @@ module _ (slots : ℕ) (before : Progress) (front : List Effect) (run : Running)
 
     -- or with a part of the lines of its actions
     pub breaks : (new : Running) (actions more : List Action) (old taken : Option (List ℕ)) → course.left ≡ actions ++ more → setting_of new ≡ setting_of run
-        → CutsEffects (effects_on run.manager (watching run) slots (count_of run) events actions) events events_new old taken → BreaksOff slots before (commit_act run.fate) front new events events_new old taken
+        → CutsEffects (effects_on run.manager (watching run) slots (count_of run) events actions) events events_new old taken → BreaksOff slots before (commit_act run.fate) front new (outside events old) (outside events_new taken)
     breaks new actions more old taken left setting cuts =
         let state = on_device slots run.manager.state in
         let behind = effects_of (setting_of run) (probes_told run.json run.probes) (run.told + length (writes_in actions)) (waiting_after run.depth run.waiting actions) (state_after state (writes_in actions)) more in
@@ -227,7 +227,7 @@ module _ (slots : ℕ) (before : Progress) (front : List Effect) (run : Running)
 
     -- it is cut at one of its last lines
     broken : (lines : List Effect) (partial rest : List ℕ) (back : List Effect) (taken : Option (List ℕ)) → last_lines ++ Prints line ∷ [] ≡ lines ++ Prints (partial ++ rest) ∷ back → events_in lines ≡ []
-        → Appends mid taken (printed lines ++ partial) → BreaksOff slots before (commit_act run.fate) front ended events events_new old taken
+        → Appends mid taken (printed lines ++ partial) → BreaksOff slots before (commit_act run.fate) front ended (outside events old) (outside events_new taken)
     broken lines partial rest back taken parts none more =
         let all = later slots before front run course course.left in
         let effects = (front ++ (all ++ lines)) ++ Prints (partial ++ rest) ∷ back in record {
@@ -246,7 +246,7 @@ module _ (slots : ℕ) (before : Progress) (front : List Effect) (run : Running)
         }
 
     -- at a word that is searched behind its last action
-    pub breaks-searching : (taken : Option (List ℕ)) → CutsLines last_lines mid taken → BreaksOff slots before (commit_act run.fate) front ended events events_new old taken
+    pub breaks-searching : (taken : Option (List ℕ)) → CutsLines last_lines mid taken → BreaksOff slots before (commit_act run.fate) front ended (outside events old) (outside events_new taken)
     breaks-searching taken cuts =
         broken cuts.front cuts.partial cuts.rest (cuts.back ++ Prints line ∷ []) taken
         (ap (λ effects. effects ++ Prints line ∷ []) cuts.cut ∙ append_assoc cuts.front (Prints (cuts.partial ++ cuts.rest) ∷ cuts.back) (Prints line ∷ []))
@@ -254,13 +254,13 @@ module _ (slots : ℕ) (before : Progress) (front : List Effect) (run : Running)
 
     module _ (searched taken : Option (List ℕ)) (last : Appends mid searched (printed last_lines)) where
       -- or at its own line
-      pub breaks-last : AppendsPart searched taken line → BreaksOff slots before (commit_act run.fate) front ended events events_new old taken
+      pub breaks-last : AppendsPart searched taken line → BreaksOff slots before (commit_act run.fate) front ended (outside events old) (outside events_new taken)
       breaks-last part =
           broken last_lines part.0 part.1 [] taken (ap (λ text. last_lines ++ Prints text ∷ []) part.2) last-none
           (Appends-trans mid searched taken (printed last_lines) part.0 last part.3)
 
       -- it is finished
-      pub finishes : Appends searched taken line → Finishes slots before (commit_act run.fate) front ended events events_new old taken
+      pub finishes : Appends searched taken line → Finishes slots before (commit_act run.fate) front ended (outside events old) (outside events_new taken)
       finishes more =
           let all = later slots before front run course course.left in
           let end = last_lines ++ Prints line ∷ [] in

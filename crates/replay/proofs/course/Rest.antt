@@ -12,8 +12,9 @@ use Rattle.replay.specs.Effects.{Effect}
 use Rattle.replay.specs.Run.{Progress, carried_so_far}
 use Rattle.replay.specs.Crashing.{HasMoreThan}
 use Rattle.replay.specs.Fates.{IsBefore, IsWithinCrash, crash_of, most_of}
-use Rattle.replay.specs.Running.{Running, Watching, HasCome, IsHalfway, IsRun, MakesAll, MakesSome, MayTurnBack, ended_line, goes_back, actions_left, trial_rest, setting_of, watching}
+use Rattle.replay.specs.Running.{Running, Watching, HasCome, IsHalfway, IsRun, MakesAll, MakesSome, MayTurnBack, ended_line, goes_back, actions_left, trial_rest, setting_of, watching, snapshot}
 use Rattle.replay.specs.Unfinished.{IsUnfinished, StandsHalfway}
+use Rattle.replay.specs.Outside.{outside}
 use Rattle.replay.proofs.making.Acting.{some-held}
 use Rattle.replay.proofs.course.Course.{Course, Ending, count_of}
 use Rattle.replay.proofs.making.Making.{then-left}
@@ -47,13 +48,13 @@ pub record Rest (slots : ℕ) (before : Progress) (front : List Effect) (run : R
   -- the actions that are left are those that are made
   pub part : (now : Managed) (some : MakesSome (most_of run.fate) run.told run.manager now) → course.left ≡ some.made ++ some.left
   pub actions : (Seen : Type 0) (watch : Watching) (width : ℕ) (count : Count) (end : Ended) (now : Managed) (events events_now : List Action) (taken taken_now : Option (List ℕ))
-      (all : MakesAll Seen (most_of run.fate) run.manager watch width (count_of run) count end now events events_now taken taken_now) → all.actions ≡ course.left
+      (all : MakesAll Seen (most_of run.fate) watch width (snapshot run.manager (count_of run) (outside events taken)) end (snapshot now count (outside events_now taken_now))) → all.actions ≡ course.left
   -- with some of them made it is unfinished
   pub more : (now : Managed) (count : Count) (some : MakesSome (most_of run.fate) run.told run.manager now) → HasCome (watching run) (count_of run) count some.made
       → IsUnfinished slots before (carried_so_far (setting_of run) before (course.made ++ some.made)) (record run { manager = now; told = count.told; waiting = count.waiting })
   -- and with all of them it ends
   pub ends : (Seen : Type 0) (watch : Watching) (width : ℕ) (count : Count) (end : Ended) (now : Managed) (events events_now : List Action) (taken taken_now : Option (List ℕ))
-      → MakesAll Seen (most_of run.fate) run.manager watch width (count_of run) count end now events events_now taken taken_now → EndsWith run now count end line ended
+      → MakesAll Seen (most_of run.fate) watch width (snapshot run.manager (count_of run) (outside events taken)) end (snapshot now count (outside events_now taken_now)) → EndsWith run now count end line ended
 
 -- ---- by its first manager
 

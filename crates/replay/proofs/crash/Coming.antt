@@ -16,9 +16,10 @@ use Rattle.replay.specs.Carried.{IsAt}
 use Rattle.replay.specs.Fates.{IsUpTo, commit_act}
 use Rattle.replay.specs.InFlight.{AreOf, IsSeen}
 use Rattle.replay.specs.Pausing.{MakesUpTo}
-use Rattle.replay.specs.Running.{Running, AreLeft, HasCome, IsRun, MakesSome, progress_of, setting_of, watching}
+use Rattle.replay.specs.Running.{Running, AreLeft, HasCome, IsRun, MakesSome, progress_of, setting_of, watching, snapshot}
 use Rattle.replay.specs.Unfinished.{IsUnfinished}
 use Rattle.replay.specs.Crashing.{ComesToCrash, HasMoreThan, IsAtCrash}
+use Rattle.replay.specs.Outside.{outside}
 use Rattle.replay.proofs.making.Acting.{some-held}
 use Rattle.replay.proofs.course.Course.{count_of}
 use Rattle.replay.proofs.between.Halfway.{cut-run}
@@ -45,7 +46,7 @@ pub record MadeUpTo (after : ℕ) (base : Running) (now : Managed) (count : Coun
   pub events : events_new ≡ events_old ++ some.made
 
 made-up_to : (Seen : Type 0) (slots after : ℕ) (base : Running) (result : Result (Unit {0}) RunFault) (now : Managed) (count : Count) (events_old events_new : List Action) (taken taken_new : Option (List ℕ))
-    → MakesUpTo Seen after base.manager now (watching base) slots (count_of base) count result events_old events_new taken taken_new → MadeUpTo after base now count events_old events_new
+    → MakesUpTo Seen after (watching base) slots (snapshot base.manager (count_of base) (outside events_old taken)) (snapshot now count (outside events_new taken_new)) result → MadeUpTo after base now count events_old events_new
 made-up_to Seen slots after base (Ok done) now count events_old events_new taken taken_new pauses =
     let reached = pauses.reached in
     record { some = pauses.some; come = pauses.come; before = pauses.before; few = omega arith; events = pauses.events }
@@ -78,7 +79,7 @@ module _ (slots after : ℕ) (base began : Running) (view_is : base ≡ began) (
   asks-few = held-few after base stop.half
 
   module _ (Seen : Type 0) (result : Result (Unit {0}) RunFault) (now : Managed) (count : Count) (events_old events_new : List Action) (taken taken_new : Option (List ℕ))
-      (makes : MakesUpTo Seen after base.manager now (watching base) slots (count_of base) count result events_old events_new taken taken_new) where
+      (makes : MakesUpTo Seen after (watching base) slots (snapshot base.manager (count_of base) (outside events_old taken)) (snapshot now count (outside events_new taken_new)) result) where
     abbrev new : Running
     new = record base { manager = now; told = count.told; waiting = count.waiting }
 
@@ -114,7 +115,7 @@ module _ (slots after : ℕ) (base began : Running) (view_is : base ≡ began) (
 
   -- at its crash it has more
   pub at-first : (Seen : Type 0) (result : Result (Unit {0}) RunFault) (now : Managed) (count : Count) (events_old events_new : List Action) (taken taken_new : Option (List ℕ))
-      → MakesUpTo Seen after base.manager now (watching base) slots (count_of base) count result events_old events_new taken taken_new
+      → MakesUpTo Seen after (watching base) slots (snapshot base.manager (count_of base) (outside events_old taken)) (snapshot now count (outside events_new taken_new)) result
       → OnOk result (IsAtCrash after (record base { manager = now; told = count.told; waiting = count.waiting }))
   at-first Seen (Ok done) now count events_old events_new taken taken_new pauses =
       let reached = pauses.reached in
@@ -134,7 +135,7 @@ module _ (slots after : ℕ) (base began : Running) (view_is : base ≡ began) (
   at-first Seen (Err why) now count events_old events_new taken taken_new stops = tt
 
   pub kind-first : (Seen : Type 0) (result : Result (Unit {0}) RunFault) (now : Managed) (count : Count) (events_old events_new : List Action) (taken taken_new : Option (List ℕ))
-      → MakesUpTo Seen after base.manager now (watching base) slots (count_of base) count result events_old events_new taken taken_new
+      → MakesUpTo Seen after (watching base) slots (snapshot base.manager (count_of base) (outside events_old taken)) (snapshot now count (outside events_new taken_new)) result
       → IfErr result (λ why. (why ≡ fault.Sink) ⊎ (why ≡ fault.Device))
   kind-first Seen (Ok done) now count events_old events_new taken taken_new pauses = tt
   kind-first Seen (Err why) now count events_old events_new taken taken_new (inl (sink, stops)) = inl sink
@@ -148,12 +149,12 @@ module _ (slots after : ℕ) (base began : Running) (view_is : base ≡ began) (
     current_base = subst (λ (r : Running). AreCurrent (live_now r.manager) flight) (sym view_is) current
 
     pub comes-first : (result : Result (Unit {0}) RunFault) (now : Managed) (count : Count) (events_new : List Action) (taken taken_new : Option (List ℕ)) (flight_new : Flight)
-        → MakesUpTo (IsSeen slots events_old flight base.manager) after base.manager now (watching base) slots (count_of base) count result events_old events_new taken taken_new
+        → MakesUpTo (IsSeen slots events_old flight base.manager) after (watching base) slots (snapshot base.manager (count_of base) (outside events_old taken)) (snapshot now count (outside events_new taken_new)) result
         → (slots_new : ℕ) → slots_new ≡ slots → (result ≢ Err fault.Sink → IsSeen slots events_old flight base.manager → IsSeen slots_new events_new flight_new now)
-        → ComesToCrash slots before (commit_act began.fate) front (record base { manager = now; told = count.told; waiting = count.waiting }) result events_old events_new flight_new taken taken_new
+        → ComesToCrash slots before (commit_act began.fate) front (record base { manager = now; told = count.told; waiting = count.waiting }) result (outside events_old taken) (outside events_new taken_new) flight_new
     comes-first result now count events_new taken taken_new flight_new makes slots_new same seen_new =
         let seen : IsSeen slots events_old flight base.manager = record { on = at_base; current = current_base } in
         let stands : IsUnfinished slots before front base = subst (IsUnfinished slots before front) (sym view_is) unfinished in
-        subst (λ fate. ComesToCrash slots before (commit_act fate) front (record base { manager = now; told = count.told; waiting = count.waiting }) result events_old events_new flight_new taken taken_new)
+        subst (λ fate. ComesToCrash slots before (commit_act fate) front (record base { manager = now; told = count.told; waiting = count.waiting }) result (outside events_old taken) (outside events_new taken_new) flight_new)
         (ap (λ (r : Running). r.fate) view_is)
         (comes-to slots after base stop more_base inside before front stands events_old events_new flight flight_new at_base current_base result now count taken taken_new makes (λ not_sink. (seen_new not_sink seen).current))

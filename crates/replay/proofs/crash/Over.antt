@@ -17,6 +17,7 @@ use Rattle.replay.specs.Crashing.{Continues, IsGoneOnWith, IsLost}
 use Rattle.replay.specs.Fates.{commit_act, crash_of}
 use Rattle.replay.specs.Running.{Running, progress_of, setting_of}
 use Rattle.replay.specs.Unfinished.{IsUnfinished, ResumesTo, TakesAtCrash}
+use Rattle.replay.specs.Outside.{outside}
 use Rattle.replay.proofs.lines.Effects.{events-append, printed-append}
 
 -- some effects, and then others
@@ -30,8 +31,8 @@ does-then first more partial events mid now taken taken_mid taken_now did does =
 }
 
 pub resumes-then : (result : Result (Unit {0}) RunFault) (slots : ℕ) (before : Progress) (act : Act) (front : List Effect) (mid new : Running) (events events_mid events_new : List Action) (flight flight_new : Flight) (taken taken_mid taken_new : Option (List ℕ))
-    → (goes : Continues slots before front mid events events_mid flight taken taken_mid) → ResumesTo slots before act (front ++ goes.more) new result events_mid events_new flight_new taken_mid taken_new
-    → ResumesTo slots before act front new result events events_new flight_new taken taken_new
+    → (goes : Continues slots before front mid (outside events taken) (outside events_mid taken_mid) flight) → ResumesTo slots before act (front ++ goes.more) new result (outside events_mid taken_mid) (outside events_new taken_new) flight_new
+    → ResumesTo slots before act front new result (outside events taken) (outside events_new taken_new) flight_new
 resumes-then (Ok done) slots before act front mid new events events_mid events_new flight flight_new taken taken_mid taken_new goes ends = record {
   rest = goes.more ++ ends.rest;
   step = subst (λ effects. HasEffects (setting_of new) before act effects (progress_of slots new)) (append_assoc front goes.more ends.rest) ends.step;
@@ -64,17 +65,17 @@ resumes-then (Err fault.Memory) slots before act front mid new events events_mid
 
 -- over its crash, by two managers
 pub carried-over : (result : Result (Unit {0}) RunFault) (slots after : ℕ) (before : Progress) (front : List Effect) (old mid over new : Running) (events events_mid events_new : List Action) (flight flight_new : Flight) (taken taken_mid taken_new : Option (List ℕ))
-    → old.fate ≡ fates.CrashAfter after → IsGoneOnWith after mid over → (goes : Continues slots before front mid events events_mid flight taken taken_mid)
-    → ResumesTo slots before (commit_act over.fate) (front ++ goes.more) new result events_mid events_new flight_new taken_mid taken_new → ResumesTo slots before (commit_act old.fate) front new result events events_new flight_new taken taken_new
+    → old.fate ≡ fates.CrashAfter after → IsGoneOnWith after mid over → (goes : Continues slots before front mid (outside events taken) (outside events_mid taken_mid) flight)
+    → ResumesTo slots before (commit_act over.fate) (front ++ goes.more) new result (outside events_mid taken_mid) (outside events_new taken_new) flight_new → ResumesTo slots before (commit_act old.fate) front new result (outside events taken) (outside events_new taken_new) flight_new
 carried-over result slots after before front old mid over new events events_mid events_new flight flight_new taken taken_mid taken_new fate_is gone goes ends =
     let now : over.fate ≡ fates.RestartedAfter after = ap (λ (run : Running). run.fate) gone.2 in
     let same : commit_act over.fate ≡ commit_act old.fate = ap commit_act now ∙ sym (ap commit_act fate_is) in
     resumes-then result slots before (commit_act old.fate) front mid new events events_mid events_new flight flight_new taken taken_mid taken_new goes
-    (subst (λ act. ResumesTo slots before act (front ++ goes.more) new result events_mid events_new flight_new taken_mid taken_new) same ends)
+    (subst (λ act. ResumesTo slots before act (front ++ goes.more) new result (outside events_mid taken_mid) (outside events_new taken_new) flight_new) same ends)
 
 -- and where there is no memory for the second one: nothing more comes about
 pub runs-out : (slots : ℕ) (before : Progress) (act : Act) (front : List Effect) (mid new : Running) (events events_mid : List Action) (flight flight_new : Flight) (taken taken_mid : Option (List ℕ)) → setting_of new ≡ setting_of mid
-    → (goes : Continues slots before front mid events events_mid flight taken taken_mid) → TakesAtCrash (setting_of mid) before act (front ++ goes.more) → ResumesTo slots before act front new (Err fault.Memory) events events_mid flight_new taken taken_mid
+    → (goes : Continues slots before front mid (outside events taken) (outside events_mid taken_mid) flight) → TakesAtCrash (setting_of mid) before act (front ++ goes.more) → ResumesTo slots before act front new (Err fault.Memory) (outside events taken) (outside events_mid taken_mid) flight_new
 runs-out slots before act front mid new events events_mid flight flight_new taken taken_mid same goes wants = record {
   more = goes.more;
   needs = subst (λ setting. TakesAtCrash setting before act (front ++ goes.more)) (sym same) wants;

@@ -22,8 +22,9 @@ use Rattle.replay.specs.Effects.{Effect, waiting_after}
 use Rattle.replay.specs.Run.{Progress, carried_so_far}
 use Rattle.replay.specs.Text.{restarted_line}
 use Rattle.replay.specs.Fates.{most_of}
-use Rattle.replay.specs.Running.{Running, Watching, EndsBy, HasCome, IsOnward, IsRun, MakesAll, MakesSome, MayTurnBack, ShowsRules, ended_line, finished_line, first_actions, goes_back, actions_left, trial_rest, routes_of, setting_of, watching}
+use Rattle.replay.specs.Running.{Running, Watching, EndsBy, HasCome, IsOnward, IsRun, MakesAll, MakesSome, MayTurnBack, ShowsRules, ended_line, finished_line, first_actions, goes_back, actions_left, trial_rest, routes_of, setting_of, watching, snapshot}
 use Rattle.replay.specs.Unfinished.{IsUnfinished, StandsOnward}
+use Rattle.replay.specs.Outside.{outside}
 use Rattle.replay.proofs.making.Acting.{some-held}
 use Rattle.replay.proofs.course.Course.{count_of}
 use Rattle.replay.proofs.lines.Effects.{waiting-append}
@@ -102,7 +103,7 @@ module _ (slots : ℕ) (run : Running) (onward : IsOnward slots run) (is : IsRun
       subst (λ waiting. waiting ≤ run.depth) (sym onward.waiting) most
 
   module _ (Seen : Type 0) (watch : Watching) (width : ℕ) (count : Count) (end : Ended) (now : Managed) (events events_now : List Action) (taken taken_now : Option (List ℕ))
-      (all : MakesAll Seen None run.manager watch width (count_of run) count end now events events_now taken taken_now) where
+      (all : MakesAll Seen None watch width (snapshot run.manager (count_of run) (outside events taken)) end (snapshot now count (outside events_now taken_now))) where
     held-one : all.held ≡ onward.some.one
     held-one =
         let both : Some all.held ≡ Some onward.some.one = sym all.held_is ∙ some-held None onward.after onward.restarted run.manager onward.some in
@@ -201,7 +202,7 @@ module _ (slots : ℕ) (run : Running) (onward : IsOnward slots run) (is : IsRun
     few_waiting = few-waiting;
     part = λ now some. with-most (λ most. (some : MakesSome most run.told run.manager now) → onward.some.left ≡ some.made ++ some.left) (onward-part now) some;
     actions = λ Seen watch width count end now events events_now taken taken_now all.
-        with-most (λ most. (all : MakesAll Seen most run.manager watch width (count_of run) count end now events events_now taken taken_now) → all.actions ≡ onward.some.left)
+        with-most (λ most. (all : MakesAll Seen most watch width (snapshot run.manager (count_of run) (outside events taken)) end (snapshot now count (outside events_now taken_now))) → all.actions ≡ onward.some.left)
         (actions-left Seen watch width count end now events events_now taken taken_now) all;
     more = λ now count some come.
         with-most (λ most. (some : MakesSome most run.told run.manager now) → HasCome (watching run) (count_of run) count some.made
@@ -213,7 +214,7 @@ module _ (slots : ℕ) (run : Running) (onward : IsOnward slots run) (is : IsRun
               ∙ ap (carried_so_far (setting_of (record run { manager = now })) (began_first slots run onward is inside)) (append_assoc made_before onward.some.made some.made);
         })) some come;
     ends = λ Seen watch width count end now events events_now taken taken_now all.
-        with-most (λ most. (all : MakesAll Seen most run.manager watch width (count_of run) count end now events events_now taken taken_now) → EndsWith run now count end (line_over slots run onward is inside) (ended_over slots run onward is inside))
+        with-most (λ most. (all : MakesAll Seen most watch width (snapshot run.manager (count_of run) (outside events taken)) end (snapshot now count (outside events_now taken_now))) → EndsWith run now count end (line_over slots run onward is inside) (ended_over slots run onward is inside))
         (ends-over Seen watch width count end now events events_now taken taken_now) all;
   }
     where

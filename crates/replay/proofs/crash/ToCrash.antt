@@ -23,8 +23,9 @@ use Rattle.replay.specs.Fates.{IsUpTo, commit_act}
 use Rattle.replay.specs.Pausing.{MakesUpTo}
 use Rattle.replay.specs.Crashing.{ComesToCrash, HasMoreThan}
 use Rattle.replay.specs.InFlight.{IsSeen}
-use Rattle.replay.specs.Running.{Running, HasCome, IsHalfway, IsRun, IsMidCommit, MakesSome, first_actions, goes_back, left_in, actions_left, progress_of, setting_of, turns_back, watching}
+use Rattle.replay.specs.Running.{Running, HasCome, IsHalfway, IsRun, IsMidCommit, MakesSome, first_actions, goes_back, left_in, actions_left, progress_of, setting_of, turns_back, watching, snapshot}
 use Rattle.replay.specs.Unfinished.{IsUnfinished, StandsHalfway}
+use Rattle.replay.specs.Outside.{outside}
 use Rattle.replay.proofs.course.Course.{Course, at-more, breaks, count_of, does-made, later, stays, told-then}
 use Rattle.replay.proofs.making.Upto.{left-writes, next-up_to}
 use Rattle.replay.proofs.making.Acting.{some-held}
@@ -211,8 +212,8 @@ module _ (slots after : ℕ) (base : Running) (half : IsHalfway (crashing after 
     seen = record { on = at; current = current }
 
     pub comes : (result : Result (Unit {0}) RunFault) (now : Managed) (count : Count) (old taken : Option (List ℕ))
-        → MakesUpTo Seen after run.manager now (watching run) slots (count_of run) count result events_old events_new old taken → (result ≢ Err fault.Sink → AreCurrent (live_now now) flight_new)
-        → ComesToCrash slots first (commit_act run.fate) (so_far slots run half is inside) (record run { manager = now; told = count.told; waiting = count.waiting }) result events_old events_new flight_new old taken
+        → MakesUpTo Seen after (watching run) slots (snapshot run.manager (count_of run) (outside events_old old)) (snapshot now count (outside events_new taken)) result → (result ≢ Err fault.Sink → AreCurrent (live_now now) flight_new)
+        → ComesToCrash slots first (commit_act run.fate) (so_far slots run half is inside) (record run { manager = now; told = count.told; waiting = count.waiting }) result (outside events_old old) (outside events_new taken) flight_new
     comes (Ok done) now count old taken pauses current_new =
         let few : count.told ≤ after = let reached = pauses.reached in omega arith in
         record {
@@ -230,7 +231,7 @@ module _ (slots after : ℕ) (base : Running) (half : IsHalfway (crashing after 
         let some_left : 0 < ahead = omega (arith, below) in
         let due : up_to_writes ahead stops.some.left ≡ Written stops.due ∷ up_to_writes (ahead - 1) stops.left =
         ap (up_to_writes ahead) stops.left_is ∙ next-up_to ahead (Written stops.due) stops.left some_left in
-        subst (λ one. ComesToCrash slots first (commit_act run.fate) (so_far slots run half is inside) (record run { manager = now; told = count.told; waiting = count.waiting }) (Err one) events_old events_new flight_new old taken) (sym device)
+        subst (λ one. ComesToCrash slots first (commit_act run.fate) (so_far slots run half is inside) (record run { manager = now; told = count.told; waiting = count.waiting }) (Err one) (outside events_old old) (outside events_new taken) flight_new) (sym device)
         (stays slots first (so_far slots run half is inside) run course-first events_old events_new at (record run { manager = now; told = count.told; waiting = count.waiting })
         stops.some.made (up_to_writes (ahead - 1) stops.left) stops.due flight_new old taken
         (left ∙ ap (λ actions. stops.some.made ++ actions) due)
@@ -239,7 +240,7 @@ module _ (slots after : ℕ) (base : Running) (half : IsHalfway (crashing after 
         (ap (λ (manager : Managed). manager.state) stops.some.now_is)
         stops.next stops.events (stops.report seen) (unfinished-new now count stops.some stops.come before few) (current_new (λ e. absurd (let bad : fault.Device ≡ fault.Sink = cc in cc))))
     comes (Err why) now count old taken (inl (sink, (stops, before, few, cuts))) current_new =
-        subst (λ one. ComesToCrash slots first (commit_act run.fate) (so_far slots run half is inside) (record run { manager = now; told = count.told; waiting = count.waiting }) (Err one) events_old events_new flight_new old taken) (sym sink)
+        subst (λ one. ComesToCrash slots first (commit_act run.fate) (so_far slots run half is inside) (record run { manager = now; told = count.told; waiting = count.waiting }) (Err one) (outside events_old old) (outside events_new taken) flight_new) (sym sink)
         (breaks slots first (so_far slots run half is inside) run course-first events_old events_new at (record run { manager = now; told = count.told; waiting = count.waiting })
         (stops.some.made ++ up_to_writes (after - run.told - length (writes_in stops.some.made)) stops.some.left) [] old taken
         (left-first now count stops.some stops.come before few ∙ sym (append-nil (stops.some.made ++ up_to_writes (after - run.told - length (writes_in stops.some.made)) stops.some.left)))
@@ -340,8 +341,8 @@ stop-at after base now same is held fate_is more =
 pub comes-to : (slots after : ℕ) (run : Running) (stop : IsToStop after run) → HasMoreThan after run → run.manager.slots ≤ slots → (before : Progress) (front : List Effect) → IsUnfinished slots before front run
     → (events_old events_new : List Action) (flight flight_new : Flight) → IsAt slots events_old (progress_of slots run) → AreCurrent (live_now run.manager) flight
     → (result : Result (Unit {0}) RunFault) (now : Managed) (count : Count) (old taken : Option (List ℕ))
-    → MakesUpTo (IsSeen slots events_old flight run.manager) after run.manager now (watching run) slots (count_of run) count result events_old events_new old taken → (result ≢ Err fault.Sink → AreCurrent (live_now now) flight_new)
-    → ComesToCrash slots before (commit_act run.fate) front (record run { manager = now; told = count.told; waiting = count.waiting }) result events_old events_new flight_new old taken
+    → MakesUpTo (IsSeen slots events_old flight run.manager) after (watching run) slots (snapshot run.manager (count_of run) (outside events_old old)) (snapshot now count (outside events_new taken)) result → (result ≢ Err fault.Sink → AreCurrent (live_now now) flight_new)
+    → ComesToCrash slots before (commit_act run.fate) front (record run { manager = now; told = count.told; waiting = count.waiting }) result (outside events_old old) (outside events_new taken) flight_new
 comes-to slots after run stop more inside before front (inl stands) events_old events_new flight flight_new at current result now count old taken makes current_new =
     let first : StandsHalfway slots before front (crashing after run) = subst (StandsHalfway slots before front) stop.same stands in
     let half = first.halfway in
@@ -349,11 +350,11 @@ comes-to slots after run stop more inside before front (inl stands) events_old e
     let so : front ≡ so_far slots (crashing after run) half stop.is inside =
     first.front_is ∙ ap (λ (progress : Progress). carried_so_far (setting_of run) progress half.some.made) first.before_is in
     let fate_is : run.fate ≡ fates.CrashAfter after = ap (λ (r : Running). r.fate) stop.same in
-    subst (λ (new : Running). ComesToCrash slots before (commit_act run.fate) front new result events_old events_new flight_new old taken)
+    subst (λ (new : Running). ComesToCrash slots before (commit_act run.fate) front new result (outside events_old old) (outside events_new taken) flight_new)
     (sym (ap (λ (r : Running). record r { manager = now; told = count.told; waiting = count.waiting }) stop.same))
-    (subst (λ act. ComesToCrash slots before act front (record (crashing after run) { manager = now; told = count.told; waiting = count.waiting }) result events_old events_new flight_new old taken) (sym (ap commit_act fate_is))
-    (subst (λ progress. ComesToCrash slots progress (commit_act (fates.CrashAfter after)) front (record (crashing after run) { manager = now; told = count.told; waiting = count.waiting }) result events_old events_new flight_new old taken) (sym first.before_is)
-    (subst (λ effects. ComesToCrash slots start (commit_act (fates.CrashAfter after)) effects (record (crashing after run) { manager = now; told = count.told; waiting = count.waiting }) result events_old events_new flight_new old taken) (sym so)
+    (subst (λ act. ComesToCrash slots before act front (record (crashing after run) { manager = now; told = count.told; waiting = count.waiting }) result (outside events_old old) (outside events_new taken) flight_new) (sym (ap commit_act fate_is))
+    (subst (λ progress. ComesToCrash slots progress (commit_act (fates.CrashAfter after)) front (record (crashing after run) { manager = now; told = count.told; waiting = count.waiting }) result (outside events_old old) (outside events_new taken) flight_new) (sym first.before_is)
+    (subst (λ effects. ComesToCrash slots start (commit_act (fates.CrashAfter after)) effects (record (crashing after run) { manager = now; told = count.told; waiting = count.waiting }) result (outside events_old old) (outside events_new taken) flight_new) (sym so)
     (comes slots after run half stop.is inside (more-made after run half more) events_old events_new flight flight_new at current result now count old taken makes current_new))))
 comes-to slots after run stop more inside before front (inr stands) events_old events_new flight flight_new at current result now count old taken makes current_new =
     absurd (let fate_is : run.fate ≡ fates.CrashAfter after = ap (λ (r : Running). r.fate) stop.same in

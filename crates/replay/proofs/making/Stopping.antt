@@ -14,7 +14,8 @@ use Rattle.batch_order.specs.Steps.{Steps, actions_of, next_of}
 use Rattle.replay.specs.declared.watch.Count.{Count}
 use Rattle.replay.specs.declared.steps.Ended.TheVariants as ended
 use Rattle.replay.specs.Carried.{CutsEffects}
-use Rattle.replay.specs.Running.{Watching, HasCome, MakesAll, MakesSome, StopsAtLine, StopsAtWrite, TellsActions, effects_on, actions_left, trial_rest}
+use Rattle.replay.specs.Running.{Watching, HasCome, MakesAll, MakesSome, StopsAtLine, StopsAtWrite, TellsActions, effects_on, actions_left, trial_rest, snapshot}
+use Rattle.replay.specs.Outside.{outside}
 use Rattle.replay.proofs.making.Acting.{ActsOnce, GoesOn, Straight, finished-first, reverted-first}
 use Rattle.replay.proofs.lines.Effects.{grown-more}
 use Rattle.replay.proofs.making.Making.{IsMaking, come-then, due-left, goes, some-more}
@@ -52,7 +53,7 @@ module _ (Seen : Type 0) (most : Option ℕ) (begun now new : Managed) (watch : 
           sym (was.whole ∙ ap (λ left. was.made ++ left) (sym was.left_is ∙ none) ∙ append-nil was.made)
 
       -- none is left, and it is finished
-      pub making-finished : (done : Done) → step ≡ Finished done → MakesAll Seen most begun watch slots count count_now (ended.Finished done) new events_begun events_new taken_begun taken
+      pub making-finished : (done : Done) → step ≡ Finished done → MakesAll Seen most watch slots (snapshot begun count (outside events_begun taken_begun)) (ended.Finished done) (snapshot new count_now (outside events_new taken))
       making-finished done finished =
           let was = making.some in
           let last = finished-first rest_now now was.one (length flight) step new done did finished in record {
@@ -73,7 +74,7 @@ module _ (Seen : Type 0) (most : Option ℕ) (begun now new : Managed) (watch : 
           }
 
       -- or taken back
-      pub making-reverted : (undone : ℕ) → step ≡ Reverted undone → MakesAll Seen most begun watch slots count count_now ended.Reverted new events_begun events_new taken_begun taken
+      pub making-reverted : (undone : ℕ) → step ≡ Reverted undone → MakesAll Seen most watch slots (snapshot begun count (outside events_begun taken_begun)) ended.Reverted (snapshot new count_now (outside events_new taken))
       making-reverted undone reverted =
           let was = making.some in
           let last = reverted-first rest_now now was.one (length flight) step new undone did reverted in record {
@@ -88,7 +89,7 @@ module _ (Seen : Type 0) (most : Option ℕ) (begun now new : Managed) (watch : 
           }
 
     -- a write is left, and isn't made
-    abbrev pub making-cut : new ≡ now → events_new ≡ events_now → IsSome (next_of now.held) → StopsAtWrite Seen most begun new watch slots count count_now events_begun events_new taken_begun taken
+    abbrev pub making-cut : new ≡ now → events_new ≡ events_now → IsSome (next_of now.held) → StopsAtWrite Seen most watch slots (snapshot begun count (outside events_begun taken_begun)) (snapshot new count_now (outside events_new taken))
     making-cut same events next =
         let due = due-left most begun now new watch count count_now count_new events_begun events_now events_new flight flight spare spare making straight next in record {
           some = stands same;
@@ -104,7 +105,7 @@ module _ (Seen : Type 0) (most : Option ℕ) (begun now new : Managed) (watch : 
   -- a line is cut before the next action
   abbrev pub making-stops : (taken_new : Option (List ℕ)) → new ≡ now → events_new ≡ events_now
       → (Seen → CutsEffects (effects_on begun watch slots count events_begun (making.some.made ++ making.some.left)) events_begun events_new taken_begun taken_new)
-      → StopsAtLine Seen most begun new watch slots count count_now events_begun events_new taken_begun taken_new
+      → StopsAtLine Seen most watch slots (snapshot begun count (outside events_begun taken_begun)) (snapshot new count_now (outside events_new taken_new))
   making-stops taken_new same events cuts = record {
     some = stands same;
     come = making.come;
@@ -115,7 +116,7 @@ module _ (Seen : Type 0) (most : Option ℕ) (begun now new : Managed) (watch : 
   -- or behind one
   abbrev pub making-stops_behind : (taken_new : Option (List ℕ)) (one : Action) (acts : ActsOnce rest_now now making.some.one one new) → events_new ≡ events_now ++ one ∷ [] → HasCome watch count_now count_new (one ∷ [])
       → (Seen → CutsEffects (effects_on begun watch slots count events_begun (making.some.made ++ one ∷ acts.left)) events_begun events_new taken_begun taken_new)
-      → StopsAtLine Seen most begun new watch slots count count_new events_begun events_new taken_begun taken_new
+      → StopsAtLine Seen most watch slots (snapshot begun count (outside events_begun taken_begun)) (snapshot new count_new (outside events_new taken_new))
   making-stops_behind taken_new one acts events come cuts =
       let was = making.some in record {
         some = some-more most begun now new watch count count_now count_new events_begun events_now events_new flight flight spare spare making one acts;

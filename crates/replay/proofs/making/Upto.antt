@@ -13,14 +13,14 @@ use Rattle.batch_order.specs.Managed.{HeldCommit, Managed, writes_due}
 use Rattle.replay.specs.declared.watch.Count.{Count}
 use Rattle.replay.specs.Fates.{IsBefore, IsUpTo, IsWithinCrash, crash_due}
 use Rattle.replay.specs.Pausing.{Pauses}
-use Rattle.replay.specs.Running.{Watching, TellsActions, left_in, actions_left}
+use Rattle.replay.specs.Running.{Snapshot, Watching, TellsActions, left_in, actions_left, snapshot}
+use Rattle.replay.specs.Outside.{outside}
 use Rattle.replay.proofs.making.Acting.{some-held}
 use Rattle.replay.proofs.making.Making.{IsMaking}
 
 -- what the loop comes to where it stops
-abbrev pub StopsThere : Type 0 → Option ℕ → Managed → Managed → Watching → ℕ → Count → Count → List Action → List Action → Option (List ℕ) → Option (List ℕ) → Type 0
-StopsThere Seen stop begun now watch slots count count_now events_begun events_now taken taken_now =
-    elim stop [ None ↦ ⊥ | Some after ↦ Pauses Seen after begun now watch slots count count_now events_begun events_now taken taken_now ]
+abbrev pub StopsThere : Type 0 → Option ℕ → Watching → ℕ → Snapshot → Snapshot → Type 0
+StopsThere Seen stop watch slots begun now = elim stop [ None ↦ ⊥ | Some after ↦ Pauses Seen after watch slots begun now ]
 
 -- fewer writes were made than come before the crash, or none is left
 abbrev pub IsEarly : ℕ → List Action → List Action → Type 0
@@ -151,7 +151,7 @@ module _ (stop : Option ℕ) (begun now : Managed) (watch : Watching) (count cou
   -- at the crash
   pauses-by : (Seen : Type 0) (slots : ℕ) (taken taken_now : Option (List ℕ)) (stop : Option ℕ) → crash_due stop count_now.told now.held ≡ true → IsWithinCrash stop count_now.told
       → IsBefore stop count.told making.some.made making.some.left → (Seen → TellsActions begun watch slots count events_begun making.some.made taken taken_now)
-      → StopsThere Seen stop begun now watch slots count count_now events_begun events_now taken taken_now
+      → StopsThere Seen stop watch slots (snapshot begun count (outside events_begun taken)) (snapshot now count_now (outside events_now taken_now))
   pauses-by Seen slots taken taken_now None due within before told = absurd (cc)
   pauses-by Seen slots taken taken_now (Some after) due within before told =
       let parts = both-parts (nat_le after count_now.told) (nat_lt 0 (length (writes_due making.some.one))) (sym (due-at after) ∙ due) in
@@ -186,16 +186,16 @@ module _ (most stop : Option ℕ) (begun now : Managed) (watch : Watching) (coun
 
   pub making-pauses : (Seen : Type 0) (slots : ℕ) (taken taken_now : Option (List ℕ)) → crash_due stop count_now.told now.held ≡ true → IsWithinCrash stop count_now.told
       → IsBefore stop count.told making.some.made making.some.left → (Seen → TellsActions begun watch slots count events_begun making.some.made taken taken_now)
-      → StopsThere Seen stop begun now watch slots count count_now events_begun events_now taken taken_now
+      → StopsThere Seen stop watch slots (snapshot begun count (outside events_begun taken)) (snapshot now count_now (outside events_now taken_now))
   making-pauses Seen slots taken taken_now due within before told = go stop refl
     where
-      go : (one : Option ℕ) → stop ≡ one → StopsThere Seen one begun now watch slots count count_now events_begun events_now taken taken_now
+      go : (one : Option ℕ) → stop ≡ one → StopsThere Seen one watch slots (snapshot begun count (outside events_begun taken)) (snapshot now count_now (outside events_now taken_now))
       go None is = absurd (let bad : false ≡ true = sym (ap (λ s. crash_due s count_now.told now.held) is) ∙ due in cc)
       go (Some after) is = turn most (alone (subst (λ s. IsSome s) (sym is) refl)) making before told
         where
           turn : (way : Option ℕ) → way ≡ None → (m : IsMaking way begun now watch count count_now events_begun events_now flight spare)
               → IsBefore stop count.told m.some.made m.some.left → (Seen → TellsActions begun watch slots count events_begun m.some.made taken taken_now)
-              → Pauses Seen after begun now watch slots count count_now events_begun events_now taken taken_now
+              → Pauses Seen after watch slots (snapshot begun count (outside events_begun taken)) (snapshot now count_now (outside events_now taken_now))
           turn None none m prior said =
               pauses-by stop begun now watch count count_now events_begun events_now flight spare m Seen slots taken taken_now (Some after) (ap (λ s. crash_due s count_now.told now.held) (sym is) ∙ due)
               (subst (λ s. IsWithinCrash s count_now.told) is within) (subst (λ s. IsBefore s count.told m.some.made m.some.left) is prior) said

@@ -8,18 +8,19 @@ use Rattle.replay.specs.declared.watch.Count.{Count}
 use Rattle.replay.specs.declared.steps.Ended.{Ended}
 use Rattle.replay.specs.declared.RunFault.{RunFault}
 use Rattle.replay.specs.Pausing.{MakesUntil}
-use Rattle.replay.specs.Running.{Watching, Makes, left_in, actions_left}
+use Rattle.replay.specs.Running.{Watching, Makes, left_in, actions_left, snapshot}
+use Rattle.replay.specs.Outside.{outside}
 
 -- a fault without a crash
 pub stops-whole : (why : RunFault) (Seen : Type 0) (most : Option ℕ) (begun now : Managed) (watch : Watching) (slots : ℕ) (count count_now : Count) (events events_now : List Action) (taken taken_now : Option (List ℕ))
-    → MakesUntil Seen most None begun now watch slots count count_now (Err why) events events_now taken taken_now → Makes Seen most begun now watch slots count count_now (Err why) events events_now taken taken_now
+    → MakesUntil Seen most None watch slots (snapshot begun count (outside events taken)) (snapshot now count_now (outside events_now taken_now)) (Err why) → Makes Seen most watch slots (snapshot begun count (outside events taken)) (snapshot now count_now (outside events_now taken_now)) (Err why)
 stops-whole why Seen most begun now watch slots count count_now events events_now taken taken_now (inl (sink, stops)) = inl (sink, stops.0)
 stops-whole why Seen most begun now watch slots count count_now events events_now taken taken_now (inr (device, stops)) = inr (device, stops.0)
 
 -- a commit that has more writes than come before its crash doesn't come to its end before that
 pub not-ended : (ended : Ended) (Seen : Type 0) (after : ℕ) (begun now : Managed) (watch : Watching) (slots : ℕ) (count count_now : Count) (events events_now : List Action) (taken taken_now : Option (List ℕ))
     → IfSome begun.held (λ held. held.turned ≡ None) → IfSome begun.held (λ held. after < count.told + length (writes_in held.actions))
-    → MakesUntil Seen None (Some after) begun now watch slots count count_now (Ok (Some ended)) events events_now taken taken_now → ⊥
+    → MakesUntil Seen None (Some after) watch slots (snapshot begun count (outside events taken)) (snapshot now count_now (outside events_now taken_now)) (Ok (Some ended)) → ⊥
 not-ended ended Seen after begun now watch slots count count_now events events_now taken taken_now forward more (all, within) =
     let turned : all.held.turned ≡ None = subst (λ held. IfSome held (λ (one : HeldCommit). one.turned ≡ None)) all.held_is forward in
     let enough : after < count.told + length (writes_in all.held.actions) = subst (λ held. IfSome held (λ (one : HeldCommit). after < count.told + length (writes_in one.actions))) all.held_is more in

@@ -15,42 +15,44 @@ returns-in_ok-step-in-Step-clause-turned g c =
     let old = c.args.manager.now in
     let new = c.step.new.self in
     let made = c.in_ok-step-in-Step.field-0 in
-    let flight = g.D.Writable.flight c.args.device.now in
+    let flight = (g.D.Writable.view c.args.device.now).flight in
     record {
       actions = actions_of made;
       turned =
-          subst (λ (t : Turn). TakesTurn (g.D.Writable.slot_count c.args.device.now) old flight t (record { answered = None; actions = actions_of made; manager = new; flight = g.D.Writable.flight c.step.new.device }))
-          (sym c.in-Step.is) (made, new, c.in_ok-step-in-Step.ensures.stepped, ap (λ (f : Flight). let left : Outcome = record { answered = None; actions = actions_of made; manager = new; flight = f } in left) c.in_ok-step-in-Step.ensures.flight);
-      events = c.in_ok-step-in-Step.ensures.events;
+          subst (λ (t : Turn). TakesTurn (g.D.Writable.view c.args.device.now).slots old flight t (record { answered = None; actions = actions_of made; manager = new; flight = (g.D.Writable.view c.step.new.device).flight }))
+          (sym c.in-Step.is) (made, new, c.in_ok-step-in-Step.ensures.stepped, ap (λ (f : Flight). let left : Outcome = record { answered = None; actions = actions_of made; manager = new; flight = f } in left) c.in_ok-step-in-Step.ensures.made.flight);
+      events = c.in_ok-step-in-Step.ensures.made.events;
+      slots = c.in_ok-step-in-Step.ensures.made.slots;
     }
 
 pub returns-in_ok-step-in-Step-clause-current : goal.returns-in_ok-step-in-Step-clause-current
 returns-in_ok-step-in-Step-clause-current g c =
     let did = c.in_ok-step-in-Step.ensures in
-    subst (AreCurrent (live_now c.step.new.self)) (sym did.flight)
-    (step_current c.args.manager.now c.in_ok-step-in-Step.field-0 c.step.new.self (g.D.Writable.flight c.args.device.now) did.keeps did.stepped c.requires.current)
+    subst (AreCurrent (live_now c.step.new.self)) (sym did.made.flight)
+    (step_current c.args.manager.now c.in_ok-step-in-Step.field-0 c.step.new.self (g.D.Writable.view c.args.device.now).flight did.keeps did.stepped c.requires.current)
 
 pub returns-in-Translate-clause-turned : goal.returns-in-Translate-clause-turned
 returns-in-Translate-clause-turned g c =
     let manager = c.args.manager.now in
-    let slots = g.D.Writable.slot_count c.args.device.now in
-    let flight = g.D.Writable.flight c.args.device.now in
-    let did : g.D.Writable.flight c.translate.new.device ≡ translated (on_device slots manager.state) c.in-Translate.key flight =
+    let slots = (g.D.Writable.view c.args.device.now).slots in
+    let flight = (g.D.Writable.view c.args.device.now).flight in
+    let did : (g.D.Writable.view c.translate.new.device).flight ≡ translated (on_device slots manager.state) c.in-Translate.key flight =
     c.translate.ensures.flight ∙ ap (λ (s : State). translated s c.in-Translate.key flight) (sym c.requires.on) in
     record {
       actions = [];
       turned =
-          subst (λ (t : Turn). TakesTurn slots manager flight t (record { answered = None; actions = []; manager = manager; flight = g.D.Writable.flight c.translate.new.device }))
+          subst (λ (t : Turn). TakesTurn slots manager flight t (record { answered = None; actions = []; manager = manager; flight = (g.D.Writable.view c.translate.new.device).flight }))
           (sym c.in-Translate.is) (ap (λ (f : Flight). let left : Outcome = record { answered = None; actions = []; manager = manager; flight = f } in left) did);
-      events = c.translate.ensures.events ∙ sym (append-nil (g.D.Writable.events c.args.device.now));
+      events = c.translate.ensures.others.events ∙ sym (append-nil (g.D.Writable.view c.args.device.now).events);
+      slots = c.translate.ensures.others.slots;
     }
 
 pub returns-in-Translate-clause-current : goal.returns-in-Translate-clause-current
 returns-in-Translate-clause-current g c =
     let manager = c.args.manager.now in
-    let slots = g.D.Writable.slot_count c.args.device.now in
-    let flight = g.D.Writable.flight c.args.device.now in
-    let did : g.D.Writable.flight c.translate.new.device ≡ translated (on_device slots manager.state) c.in-Translate.key flight =
+    let slots = (g.D.Writable.view c.args.device.now).slots in
+    let flight = (g.D.Writable.view c.args.device.now).flight in
+    let did : (g.D.Writable.view c.translate.new.device).flight ≡ translated (on_device slots manager.state) c.in-Translate.key flight =
     c.translate.ensures.flight ∙ ap (λ (s : State). translated s c.in-Translate.key flight) (sym c.requires.on) in
     subst (AreCurrent (live_now manager)) (sym did)
     (translate_current (live_now manager) (on_device slots manager.state) c.in-Translate.key flight (c.serving.ensures.now slots c.requires.slots) c.translate.ensures.valid c.requires.current)
@@ -58,15 +60,16 @@ returns-in-Translate-clause-current g c =
 pub returns-in-Search-clause-turned : goal.returns-in-Search-clause-turned
 returns-in-Search-clause-turned g c =
     let manager = c.args.manager.now in
-    let slots = g.D.Writable.slot_count c.args.device.now in
-    let flight = g.D.Writable.flight c.args.device.now in
+    let slots = (g.D.Writable.view c.args.device.now).slots in
+    let flight = (g.D.Writable.view c.args.device.now).flight in
     let found : c.search.result ≡ search_answer (on_device slots manager.state) flight =
     c.search.ensures.answer ∙ ap (λ (s : State). search_answer s flight) (sym c.requires.on) in
     let seen = search_seen slots manager flight c.search.result (c.serving.ensures.serves slots c.requires.slots) (c.serving.ensures.now slots c.requires.slots) c.requires.current found in
     record {
       actions = [];
       turned =
-          subst (λ (t : Turn). TakesTurn slots manager flight t (record { answered = c.search.result; actions = []; manager = manager; flight = g.D.Writable.flight c.search.new.self }))
+          subst (λ (t : Turn). TakesTurn slots manager flight t (record { answered = c.search.result; actions = []; manager = manager; flight = (g.D.Writable.view c.search.new.self).flight }))
           (sym c.in-Search.is) (subst (λ (f : Flight). TakesTurn slots manager flight Search (record { answered = c.search.result; actions = []; manager = manager; flight = f })) (sym c.search.ensures.flight) seen);
-      events = c.search.ensures.events ∙ sym (append-nil (g.D.Writable.events c.args.device.now));
+      events = c.search.ensures.others.events ∙ sym (append-nil (g.D.Writable.view c.args.device.now).events);
+      slots = c.search.ensures.others.slots;
     }

@@ -3,6 +3,7 @@ use Rattle.std.proofs.lemmas.Result.{err_from_is_err_and}
 use Rattle.readback.specs.Fault.{AreSetBits}
 use Rattle.readback.proofs.StageFound.{differ_answers, maps_are, is_read}
 use Rattle.readback.proofs.staging.read_live.Goals as goal
+use Rattle.tcam_device.specs.View.{journal}
 
 pub returns-in_err-check_maps-clause-wrong : goal.returns-in_err-check_maps-clause-wrong
 returns-in_err-check_maps-clause-wrong g c =
@@ -18,6 +19,6 @@ returns-clause-read g c =
     let maps = c.in_ok-check_maps.ensures in
     let words = c.in_ok-check_words.ensures in
     let live = c.live_meanwhile-live in
-    is_read c.args.slots c.args.mode c.args.parts.now.src c.args.parts.now.dst c.args.parts.now.rules.rules c.args.batch.now (g.D.Writable.slot_count c.args.device.now) (g.D.Writable.journal c.args.device.now)
+    is_read c.args.slots c.args.mode c.args.parts.now.src c.args.parts.now.dst c.args.parts.now.rules.rules c.args.batch.now (g.D.Writable.view c.args.device.now).slots (journal (g.D.Writable.view c.args.device.now))
     live.result c.of_maps-bits.result c.requires.accepted c.right_rules.ensures.is_set c.right_rules.ensures.right c.changes_rules.ensures maps.src maps.dst maps.are
     c.of_maps-bits.ensures.src c.of_maps-bits.ensures.dst words.right words.short live.ensures.coded live.ensures.during

@@ -9,15 +9,15 @@ use Rattle.replay.proofs.steps.make_until.Given as goal
 
 abbrev pub invariant-making : goal.invariant-making
 invariant-making g l = record {
-  making : IsMaking l.fn.most l.fn.manager l.manager l.fn.watch l.fn.count l.count (g.D.Writable.events l.fn.device) (g.D.Writable.events l.device) (g.D.Writable.flight l.device) (g.D.Writable.spare l.device);
-  told : (which : Bool) → IsSeen (g.D.Writable.slot_count l.fn.device) (g.D.Writable.events l.fn.device) (g.D.Writable.flight l.fn.device) l.fn.manager
-      → TellsActions l.fn.manager l.fn.watch (g.D.Writable.slot_count l.fn.device) l.fn.count (g.D.Writable.events l.fn.device) making.some.made
+  making : IsMaking l.fn.most l.fn.manager l.manager l.fn.watch l.fn.count l.count (g.D.Writable.view l.fn.device).events (g.D.Writable.view l.device).events (g.D.Writable.view l.device).flight (g.D.Writable.view l.device).spare;
+  told : (which : Bool) → IsSeen (g.D.Writable.view l.fn.device).slots (g.D.Writable.view l.fn.device).events (g.D.Writable.view l.fn.device).flight l.fn.manager
+      → TellsActions l.fn.manager l.fn.watch (g.D.Writable.view l.fn.device).slots l.fn.count (g.D.Writable.view l.fn.device).events making.some.made
       (counted which (g.K.Sink.taken l.fn.sink) (g.K.Sink.accepted l.fn.sink)) (counted which (g.K.Sink.taken l.sink) (g.K.Sink.accepted l.sink));
-  seen : IsSeen (g.D.Writable.slot_count l.fn.device) (g.D.Writable.events l.fn.device) (g.D.Writable.flight l.fn.device) l.fn.manager
-      → IsSeen (g.D.Writable.slot_count l.fn.device) (g.D.Writable.events l.device) (g.D.Writable.flight l.device) l.manager;
+  seen : IsSeen (g.D.Writable.view l.fn.device).slots (g.D.Writable.view l.fn.device).events (g.D.Writable.view l.fn.device).flight l.fn.manager
+      → IsSeen (g.D.Writable.view l.fn.device).slots (g.D.Writable.view l.device).events (g.D.Writable.view l.device).flight l.manager;
   before : IsBefore l.fn.stop l.fn.count.told making.some.made making.some.left;
   reach : IsWithinCrash l.fn.stop l.count.told;
-  leaves : Leaves (g.K.Sink.taken) (g.K.Sink.faults) l.fn.sink l.sink g.D.Writable.slot_count g.D.Writable.journal g.D.Writable.faults l.fn.device l.device ⊥ ⊥;
+  leaves : Leaves (g.K.Sink.taken) (g.K.Sink.faults) l.fn.sink l.sink (g.D.Writable.view l.fn.device) (g.D.Writable.view l.device) ⊥ ⊥;
 }
 
 abbrev pub decreases-making : goal.decreases-making

@@ -1,5 +1,6 @@
 use Rattle.std.proofs.Common.{Err, ap, codes, sym, ◌∙◌, Ok, refl}
 use Rattle.replay.specs.Running.{setting_of}
+use Rattle.replay.proofs.between.Leaving.{leaves-as, leaves-line, uncounted}
 use Rattle.tcam_cli.specs.Headline.{run_kind}
 use Rattle.tcam_cli.proofs.FaultCounts.{closed-leaves, closes-leaves, some-leaves, stopped-leaves}
 use Rattle.tcam_cli.proofs.Outcomes.{stops, stops-grows, stops-memory}
@@ -57,10 +58,10 @@ returns-in-Ok-None-clause-gives g c =
     let h = c.in-Ok-None in (
       h.ensures.gives.0,
       h.ensures.gives.1,
-      λ which. rounds-other _ _ _ _ _ _ _ _ _ _ _ _ _ h.ensures.gives.2 c.finish.ensures.kind.3 (λ bytes left now start may s. closes-grows joins _ _ _ _ _ _ ((c.finish.ensures.closes (g.D.Writable.slot_count c.args.device.now)).closes which))
+      λ which. rounds-other _ _ _ _ _ _ _ _ _ _ _ _ _ h.ensures.gives.2 c.finish.ensures.kind.3 (λ bytes left now start may s. closes-grows joins _ _ _ _ _ _ ((c.finish.ensures.closes (g.D.Writable.view c.args.device.now).slots).closes which))
           (λ bytes taken begun now start may parts s.
           exit-end _ joins bytes _ begun _ _ start _ s c.next.new.self taken now _ _ (λ going. rw h.field-0-is at (h.ensures.gives.2.hands going begun now may))
-          (λ other. rests-same _ _ _ _ begun now h.ensures.gives.2 may other) ((c.finish.ensures.closes (g.D.Writable.slot_count c.args.device.now)).closes which)),
+          (λ other. rests-same _ _ _ _ begun now h.ensures.gives.2 may other) ((c.finish.ensures.closes (g.D.Writable.view c.args.device.now).slots).closes which)),
     )
 
 pub returns-in-Err-clause-gives : goal.returns-in-Err-clause-gives
@@ -89,7 +90,7 @@ pub returns-in-Ok-clause-gives : goal.returns-in-Ok-clause-gives
 returns-in-Ok-clause-gives g c =
     let h = c.in-Ok-Some in
     let setting = setting_of c.args.run.now in
-    let slots = g.D.Writable.slot_count c.args.device.now in (
+    let slots = (g.D.Writable.view c.args.device.now).slots in (
       h.ensures.gives.0,
       h.ensures.gives.1,
       λ which. rounds-none (run_kind setting slots) _ _ _ _ _ _ _ _ _ _ h.ensures.gives.2 (λ bytes left now start may s. grows-of setting slots _ _ _ _ _ _ (c.in-Ok.ensures.acts which (so-far-at setting slots _ _ _ _ _ _ _ s)).does)
@@ -149,7 +150,7 @@ returns-in-Err-Stopped-clause-gives g c =
 
 pub returns-in-Err-Stopped-clause-leaves : goal.returns-in-Err-Stopped-clause-leaves
 returns-in-Err-Stopped-clause-leaves g c =
-    some-leaves _ _ _ _ _ _ _ _ _ _ (rw c.status_of_fault.ensures.status (stopped-leaves _ _ _ _ _ _ _ _ _ c.in-Err-Stopped.why (rw c.in-Err-Stopped.field-0-is at c.in-Err-Stopped.ensures.leaves)))
+    some-leaves _ _ _ _ _ _ _ (rw c.status_of_fault.ensures.status (stopped-leaves _ _ _ _ _ _ c.in-Err-Stopped.why (rw c.in-Err-Stopped.field-0-is at c.in-Err-Stopped.ensures.leaves)))
 
 -- no commit is unfinished
 pub unreachable-requires : goal.unreachable-requires
@@ -158,24 +159,34 @@ unreachable-requires g c =
     taken c.in-Err-Held.field-0-0 (ap Err c.in-Err-Held.field-0-is)
 
 pub returns-in-Err-ScriptTooLong-clause-leaves : goal.returns-in-Err-ScriptTooLong-clause-leaves
-returns-in-Err-ScriptTooLong-clause-leaves g c = some-leaves _ _ _ _ _ _ _ _ _ _ (closed-leaves _ _ _ _ _ g.K.Sink.accepted _ _ c.args.device.now _ _ _ c.fault.ensures.kind.2 c.fault.ensures.closes)
+returns-in-Err-ScriptTooLong-clause-leaves g c = some-leaves _ _ _ _ _ _ _ (closed-leaves _ _ g.K.Sink.accepted _ _ (g.D.Writable.view c.args.device.now) _ _ _ c.fault.ensures.kind.2 c.fault.ensures.closes)
 
 pub returns-in-Err-TooLong-clause-leaves : goal.returns-in-Err-TooLong-clause-leaves
-returns-in-Err-TooLong-clause-leaves g c = some-leaves _ _ _ _ _ _ _ _ _ _ (closed-leaves _ _ _ _ _ g.K.Sink.accepted _ _ c.args.device.now _ _ _ c.fault-in-Err-TooLong.ensures.kind.2 c.fault-in-Err-TooLong.ensures.closes)
+returns-in-Err-TooLong-clause-leaves g c = some-leaves _ _ _ _ _ _ _ (closed-leaves _ _ g.K.Sink.accepted _ _ (g.D.Writable.view c.args.device.now) _ _ _ c.fault-in-Err-TooLong.ensures.kind.2 c.fault-in-Err-TooLong.ensures.closes)
 
 pub returns-in-Err-BadByte-clause-leaves : goal.returns-in-Err-BadByte-clause-leaves
-returns-in-Err-BadByte-clause-leaves g c = some-leaves _ _ _ _ _ _ _ _ _ _ (closed-leaves _ _ _ _ _ g.K.Sink.accepted _ _ c.args.device.now _ _ _ c.fault-in-Err-BadByte.ensures.kind.2 c.fault-in-Err-BadByte.ensures.closes)
+returns-in-Err-BadByte-clause-leaves g c = some-leaves _ _ _ _ _ _ _ (closed-leaves _ _ g.K.Sink.accepted _ _ (g.D.Writable.view c.args.device.now) _ _ _ c.fault-in-Err-BadByte.ensures.kind.2 c.fault-in-Err-BadByte.ensures.closes)
 
 pub returns-in-Err-clause-leaves : goal.returns-in-Err-clause-leaves
-returns-in-Err-clause-leaves g c = some-leaves _ _ _ _ _ _ _ _ _ _ (closed-leaves _ _ _ _ _ g.K.Sink.accepted _ _ c.args.device.now _ _ _ c.fault-in-Err.ensures.kind.2 c.fault-in-Err.ensures.closes)
+returns-in-Err-clause-leaves g c = some-leaves _ _ _ _ _ _ _ (closed-leaves _ _ g.K.Sink.accepted _ _ (g.D.Writable.view c.args.device.now) _ _ _ c.fault-in-Err.ensures.kind.2 c.fault-in-Err.ensures.closes)
 
 pub returns-in-Ok-None-clause-leaves : goal.returns-in-Ok-None-clause-leaves
-returns-in-Ok-None-clause-leaves g c = some-leaves _ _ _ _ _ _ _ _ _ _ (closed-leaves _ _ _ _ _ g.K.Sink.accepted _ _ c.args.device.now _ _ _ c.finish.ensures.kind.2 (c.finish.ensures.closes (g.D.Writable.slot_count c.args.device.now)))
+returns-in-Ok-None-clause-leaves g c = some-leaves _ _ _ _ _ _ _ (closed-leaves _ _ g.K.Sink.accepted _ _ (g.D.Writable.view c.args.device.now) _ _ _ c.finish.ensures.kind.2 (c.finish.ensures.closes (g.D.Writable.view c.args.device.now).slots))
 
 pub returns-in-Err-BatchFull-clause-leaves : goal.returns-in-Err-BatchFull-clause-leaves
 returns-in-Err-BatchFull-clause-leaves g c =
-    closes-leaves _ _ _ _ _ _ _ _ _ _ _ _ _ _ _ _ (rw c.in-Err-BatchFull.field-0-is at c.in-Err-BatchFull.ensures.leaves) (λ e. cc) (λ e. cc) c.fault-in-Err-BatchFull.ensures.closes c.fault-in-Err-BatchFull.ensures.kind.2
+    closes-leaves _ _ _ _ _ _ _ _ _ _ _ _ _ (rw c.in-Err-BatchFull.field-0-is at c.in-Err-BatchFull.ensures.leaves) (λ e. cc) (λ e. cc) c.fault-in-Err-BatchFull.ensures.closes c.fault-in-Err-BatchFull.ensures.kind.2
 
 pub returns-in-Err-ProbesFull-clause-leaves : goal.returns-in-Err-ProbesFull-clause-leaves
 returns-in-Err-ProbesFull-clause-leaves g c =
-    closes-leaves _ _ _ _ _ _ _ _ _ _ _ _ _ _ _ _ (rw c.in-Err-ProbesFull.field-0-is at c.in-Err-ProbesFull.ensures.leaves) (λ e. cc) (λ e. cc) c.fault-in-Err-ProbesFull.ensures.closes c.fault-in-Err-ProbesFull.ensures.kind.2
+    closes-leaves _ _ _ _ _ _ _ _ _ _ _ _ _ (rw c.in-Err-ProbesFull.field-0-is at c.in-Err-ProbesFull.ensures.leaves) (λ e. cc) (λ e. cc) c.fault-in-Err-ProbesFull.ensures.closes c.fault-in-Err-ProbesFull.ensures.kind.2
+
+-- a line that does nothing leaves all
+pub returns-in-Err-Read-clause-leaves : goal.returns-in-Err-Read-clause-leaves
+returns-in-Err-Read-clause-leaves g c = leaves-line _ _ _ _ _ _ _ _ (λ some. some) refl refl refl (uncounted _ _ _ (λ e. cc) refl) (λ e. cc)
+
+pub returns-in-Ok-None-read_act-clause-leaves : goal.returns-in-Ok-None-read_act-clause-leaves
+returns-in-Ok-None-read_act-clause-leaves g c = leaves-line _ _ _ _ _ _ _ _ (λ some. some) refl refl refl (uncounted _ _ _ (λ e. cc) refl) (λ e. cc)
+
+pub returns-in-Ok-clause-leaves : goal.returns-in-Ok-clause-leaves
+returns-in-Ok-clause-leaves g c = leaves-as _ _ _ _ _ _ _ _ _ _ (λ e. absurd (cc)) (λ e. absurd (cc)) (λ e. absurd (cc)) (λ e. absurd (cc)) c.in-Ok.ensures.leaves

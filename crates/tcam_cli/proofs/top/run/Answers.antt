@@ -1,4 +1,4 @@
-use Rattle.std.proofs.Common.{true, false, ◌≤◌, refl, ap, sym, ◌∙◌, subst, Err, arith}
+use Rattle.std.proofs.Common.{true, false, ◌≤◌, refl, ap, sym, ◌∙◌, Err, arith}
 use Rattle.script_runs.specs.declared.Status.TheVariants.{Done, Usage}
 use Rattle.replay.specs.Running.{Running, progress_of, setting_of}
 use Rattle.report_lines.specs.Text.{usage_line}
@@ -22,7 +22,7 @@ use Rattle.tcam_cli.proofs.top.run.Goals as goal
 
 pub run_script-requires-clause-begun : goal.run_script-requires-clause-begun
 run_script-requires-clause-begun g c =
-    let slots = g.D.Writable.slot_count c.args.device.now in
+    let slots = (g.D.Writable.view c.args.device.now).slots in
     let range = rw c.in-Ok-Script.field-0-is at c.in-Ok-Script.ensures.within in
     let within : c.in-Ok-Script.slots ≤ slots = omega (arith, range.1) in
     ap (progress_of slots) c.in-Ok.ensures ∙ begins c.in-Ok-Script.mode c.in-Ok-Script.placement c.in-Ok-Script.family c.in-Ok-Script.slots slots c.in-Ok-Script.trace c.in-Ok-Script.depth c.in-Ok-Script.json within
@@ -36,9 +36,9 @@ pub returns-in-Ok-clause-hitless : goal.returns-in-Ok-clause-hitless
 returns-in-Ok-clause-hitless g c =
     let asked = rw c.in-Ok-Script.field-0-is at c.in-Ok-Script.ensures.asked in
     let carried = c.run_script.ensures.carried_out in
-    rw (asked ∙ ap (λ (run : Running). Reads (setting_of run)) (sym c.in-Ok.ensures), g.met.D.Writable.agrees c.run_script.new.device)
-    (hitless-job (Reads (setting_of c.in-Ok.run')) (g.D.Writable.slot_count c.args.device.now) c.run_script.result (g.S.Source.left c.args.source.now) (g.S.Source.left c.run_script.new.source)
-    (g.K.Sink.taken c.args.sink.now) (g.K.Sink.taken c.run_script.new.sink) (g.D.Writable.events c.run_script.new.device) carried)
+    rw (asked ∙ ap (λ (run : Running). Reads (setting_of run)) (sym c.in-Ok.ensures))
+    (hitless-job (Reads (setting_of c.in-Ok.run')) (g.D.Writable.view c.args.device.now).slots c.run_script.result (g.S.Source.left c.args.source.now) (g.S.Source.left c.run_script.new.source)
+    (g.K.Sink.taken c.args.sink.now) (g.K.Sink.taken c.run_script.new.sink) (g.D.Writable.view c.run_script.new.device).events carried)
 
 pub returns-in-Ok-clause-given : goal.returns-in-Ok-clause-given
 returns-in-Ok-clause-given g c = λ which.
@@ -60,7 +60,7 @@ returns-in-Err-clause-carried_out g c = memory-carried _ _ _ _ _ c.requires.blan
 
 pub returns-in-Err-clause-hitless : goal.returns-in-Err-clause-hitless
 returns-in-Err-clause-hitless g c =
-    rw (g.met.D.Writable.agrees c.args.device.now) (hitless-job _ _ _ _ _ _ _ _ (memory-carried _ _ _ (g.K.Sink.taken c.args.sink.now) _ c.requires.blank))
+    hitless-job _ _ _ _ _ _ _ _ (memory-carried _ _ _ (g.K.Sink.taken c.args.sink.now) _ c.requires.blank)
 
 pub returns-in-Err-clause-given : goal.returns-in-Err-clause-given
 returns-in-Err-clause-given g c = λ which. promised-none _ _ _ _ _ _ _ (λ left. memory-carried _ _ left _ _ c.requires.blank) (λ left. tt)
@@ -89,7 +89,7 @@ returns-in-Err-Memory-clause-carried_out g c = memory-carried _ _ _ _ _ c.requir
 
 pub returns-in-Err-Memory-clause-hitless : goal.returns-in-Err-Memory-clause-hitless
 returns-in-Err-Memory-clause-hitless g c =
-    rw (g.met.D.Writable.agrees c.args.device.now) (hitless-job _ _ _ _ _ _ _ _ (memory-carried _ _ _ (g.K.Sink.taken c.args.sink.now) _ c.requires.blank))
+    hitless-job _ _ _ _ _ _ _ _ (memory-carried _ _ _ (g.K.Sink.taken c.args.sink.now) _ c.requires.blank)
 
 pub returns-in-Ok-Help-clause-given : goal.returns-in-Ok-Help-clause-given
 returns-in-Ok-Help-clause-given g c = λ which.
@@ -131,7 +131,7 @@ returns-in-Err-Memory-clause-in_time g c = nothing-read _ _ _ _ _ _ (λ e. cc)
 
 pub run_made-requires-clause-begun : goal.run_made-requires-clause-begun
 run_made-requires-clause-begun g c =
-    let slots = g.D.Writable.slot_count c.args.device.now in
+    let slots = (g.D.Writable.view c.args.device.now).slots in
     let numbers = rw c.in-Ok-Made.field-0-is at c.in-Ok-Made.ensures.within in
     let most = numbers.most_slots in
     let device = c.requires.slots in
@@ -147,9 +147,9 @@ returns-in-Ok-new-clause-carried_out g c =
 pub returns-in-Ok-new-clause-hitless : goal.returns-in-Ok-new-clause-hitless
 returns-in-Ok-new-clause-hitless g c =
     let asked = rw c.in-Ok-Made.field-0-is at c.in-Ok-Made.ensures.asked in
-    rw (asked ∙ ap (λ (run : Running). Makes (setting_of run) c.in-Ok-Made.seed c.in-Ok-Made.rules c.in-Ok-Made.batches) (sym c.in-Ok-new.ensures), g.met.D.Writable.agrees c.run_made.new.device)
-    (hitless-job (Makes (setting_of c.in-Ok-new.run') c.in-Ok-Made.seed c.in-Ok-Made.rules c.in-Ok-Made.batches) (g.D.Writable.slot_count c.args.device.now) c.run_made.result
-    (g.S.Source.left c.args.source.now) (g.S.Source.left c.args.source.now) (g.K.Sink.taken c.args.sink.now) (g.K.Sink.taken c.run_made.new.sink) (g.D.Writable.events c.run_made.new.device)
+    rw (asked ∙ ap (λ (run : Running). Makes (setting_of run) c.in-Ok-Made.seed c.in-Ok-Made.rules c.in-Ok-Made.batches) (sym c.in-Ok-new.ensures))
+    (hitless-job (Makes (setting_of c.in-Ok-new.run') c.in-Ok-Made.seed c.in-Ok-Made.rules c.in-Ok-Made.batches) (g.D.Writable.view c.args.device.now).slots c.run_made.result
+    (g.S.Source.left c.args.source.now) (g.S.Source.left c.args.source.now) (g.K.Sink.taken c.args.sink.now) (g.K.Sink.taken c.run_made.new.sink) (g.D.Writable.view c.run_made.new.device).events
     (c.run_made.ensures.carried_out true (g.S.Source.left c.args.source.now)))
 
 pub returns-in-Ok-new-clause-given : goal.returns-in-Ok-new-clause-given
@@ -165,13 +165,13 @@ returns-in-Ok-new-clause-causes g c =
     rw (asked ∙ ap (λ (run : Running). Makes (setting_of run) c.in-Ok-Made.seed c.in-Ok-Made.rules c.in-Ok-Made.batches) (sym c.in-Ok-new.ensures)) (record {
       read = uncounted _ (g.S.Source.faults c.args.source.now) (g.S.Source.faults c.args.source.now) carried.1.0 refl;
       write = c.run_made.ensures.leaves.sink_cause;
-      device = made-tried _ _ _ _ _ _ _ _ _ _ _ (g.met.D.Writable.agrees c.args.device.now ∙ ap writes_in c.requires.blank) c.run_made.ensures.leaves;
+      device = made-tried _ _ _ _ _ _ _ _ (ap writes_in c.requires.blank) c.run_made.ensures.leaves;
       ends = made-ends _ _ _ _ _ _ (g.S.Source.left c.args.source.now) _ _ _ carried;
     })
 
 pub returns-in-Err-new-clause-hitless : goal.returns-in-Err-new-clause-hitless
 returns-in-Err-new-clause-hitless g c =
-    rw (g.met.D.Writable.agrees c.args.device.now) (hitless-job _ _ _ _ _ _ _ _ (memory-carried _ _ _ (g.K.Sink.taken c.args.sink.now) _ c.requires.blank))
+    hitless-job _ _ _ _ _ _ _ _ (memory-carried _ _ _ (g.K.Sink.taken c.args.sink.now) _ c.requires.blank)
 
 pub returns-in-Err-new-clause-given : goal.returns-in-Err-new-clause-given
 returns-in-Err-new-clause-given g c = λ which. promised-none _ _ _ _ _ _ _ (λ left. memory-carried _ _ left _ _ c.requires.blank) (λ left. tt)
@@ -182,15 +182,15 @@ pub returns-in-Ok-Verify-clause-carried_out : goal.returns-in-Ok-Verify-clause-c
 returns-in-Ok-Verify-clause-carried_out g c =
     let asked = rw c.in-Ok-Verify.field-0-is at c.in-Ok-Verify.ensures.asked in
     let v = c.run_verify.ensures.gives in
-    rw asked (checked-carried (g.D.Writable.slot_count c.args.device.now) _ _ _ _ _ v.1 _ _ _ c.requires.blank v.2 (shown _ _ _ _ _ _ v.1 v.0 v.3 v.4 true))
+    rw asked (checked-carried (g.D.Writable.view c.args.device.now).slots _ _ _ _ _ v.1 _ _ _ c.requires.blank v.2 (shown _ _ _ _ _ _ v.1 v.0 v.3 v.4 true))
 
 pub returns-in-Ok-Verify-clause-hitless : goal.returns-in-Ok-Verify-clause-hitless
 returns-in-Ok-Verify-clause-hitless g c =
     let asked = rw c.in-Ok-Verify.field-0-is at c.in-Ok-Verify.ensures.asked in
     let v = c.run_verify.ensures.gives in
-    rw (asked, g.met.D.Writable.agrees c.args.device.now)
-    (hitless-job Verifies (g.D.Writable.slot_count c.args.device.now) c.run_verify.result _ _ (g.K.Sink.taken c.args.sink.now) (g.K.Sink.taken c.run_verify.new.sink) (g.D.Writable.events c.args.device.now)
-    (checked-carried (g.D.Writable.slot_count c.args.device.now) _ _ _ _ _ v.1 _ _ _ c.requires.blank v.2 (shown _ _ _ _ _ _ v.1 v.0 v.3 v.4 true)))
+    rw asked
+    (hitless-job Verifies (g.D.Writable.view c.args.device.now).slots c.run_verify.result _ _ (g.K.Sink.taken c.args.sink.now) (g.K.Sink.taken c.run_verify.new.sink) (g.D.Writable.view c.args.device.now).events
+    (checked-carried (g.D.Writable.view c.args.device.now).slots _ _ _ _ _ v.1 _ _ _ c.requires.blank v.2 (shown _ _ _ _ _ _ v.1 v.0 v.3 v.4 true)))
 
 pub returns-in-Ok-Verify-clause-given : goal.returns-in-Ok-Verify-clause-given
 returns-in-Ok-Verify-clause-given g c = λ which.
@@ -202,7 +202,7 @@ pub returns-in-Ok-Verify-clause-in_time : goal.returns-in-Ok-Verify-clause-in_ti
 returns-in-Ok-Verify-clause-in_time g c =
     let asked = rw c.in-Ok-Verify.field-0-is at c.in-Ok-Verify.ensures.asked in
     let v = c.run_verify.ensures.gives in
-    rw asked (checked-in-time (g.D.Writable.slot_count c.args.device.now) c.run_verify.result _ _ v.1 (g.D.Writable.events c.args.device.now) (g.K.Sink.accepted c.args.sink.now) (g.K.Sink.accepted c.run_verify.new.sink) v.0 v.2.given v.3 (only-read _ _ _ _ _ _ v.0 v.4))
+    rw asked (checked-in-time (g.D.Writable.view c.args.device.now).slots c.run_verify.result _ _ v.1 (g.D.Writable.view c.args.device.now).events (g.K.Sink.accepted c.args.sink.now) (g.K.Sink.accepted c.run_verify.new.sink) v.0 v.2.given v.3 (only-read _ _ _ _ _ _ v.0 v.4))
 
 pub returns-in-Ok-Verify-clause-told : goal.returns-in-Ok-Verify-clause-told
 returns-in-Ok-Verify-clause-told g c =
@@ -214,11 +214,11 @@ returns-in-Ok-Verify-clause-causes g c =
     let asked = rw c.in-Ok-Verify.field-0-is at c.in-Ok-Verify.ensures.asked in
     let v = c.run_verify.ensures.gives in
     let sink = sink-counted _ _ _ _ _ _ v.0 v.4 in
-    let leaves = leaves-line g.K.Sink.taken g.K.Sink.faults g.D.Writable.slot_count g.D.Writable.journal g.D.Writable.faults c.args.sink.now c.run_verify.new.sink c.args.device.now c.args.device.now _ _
+    let leaves = leaves-line g.K.Sink.taken g.K.Sink.faults c.args.sink.now c.run_verify.new.sink (g.D.Writable.view c.args.device.now) (g.D.Writable.view c.args.device.now) _ _
     (λ some. told-sink _ _ _ _ _ _ v.0 v.4 some) refl refl refl sink (no-device-fault _ _ _ _ _ _ v.0 v.4) in
     rw asked (record {
       read = c.run_verify.ensures.cause;
       write = sink;
-      device = made-tried _ _ _ _ _ _ _ _ _ _ _ (g.met.D.Writable.agrees c.args.device.now ∙ ap writes_in c.requires.blank) leaves;
+      device = made-tried _ _ _ _ _ _ _ _ (ap writes_in c.requires.blank) leaves;
       ends = checked-ends _ _ _ _ _ v.1 _ _ v.2 (shown _ _ _ _ _ _ v.1 v.0 v.3 v.4 true);
     })

@@ -32,7 +32,7 @@ acts-init g c =
       room = subst (λ come. AreBatches (2 * c.args.rules) come c.new-maker.result) (sym empty) c.new-maker.ensures.batches;
       made = λ which. made-first _ _ _ _ _ _ _ c.new-maker.ensures.commands c.requires.begun c.requires.blank;
       none_in_flight = c.requires.none_in_flight;
-      leaves = leaves-line _ _ _ _ _ _ _ _ _ ⊥ ⊥ (λ some. some) refl refl refl (uncounted ⊥ _ _ (λ e. e) refl) (λ e. e);
+      leaves = leaves-line _ _ _ _ _ _ ⊥ ⊥ (λ some. some) refl refl refl (uncounted ⊥ _ _ (λ e. e) refl) (λ e. e);
     }
 
 pub apply-requires : goal.apply-requires
@@ -41,7 +41,7 @@ apply-requires g c =
     let slots : c.acts.run.manager.slots ≡ c.args.run.now.manager.slots = ap (λ (s : Setting). s.slots) i.setting in
     let family = ap (λ (s : Setting). s.family) i.setting ∙ c.requires.family in
     let json = ap (λ (s : Setting). s.json) i.setting ∙ c.requires.words in
-    let count = i.leaves.slot_count in
+    let count = i.leaves.slots in
     let within = c.requires.slots in
     let few = i.commits in
     record {
@@ -75,11 +75,11 @@ acts-preserved g c =
     let one = ap length next in
     let few = i.commits in
     let more = a.commits in
-    let here : (which : Bool) → MadeSoFar (setting_of c.acts.run) (g.D.Writable.slot_count c.acts.device) (made_commands c.args.seed c.args.rules c.args.batches) (c.in-Some.made ∷ c.next.new.self)
-    (progress_of (g.D.Writable.slot_count c.acts.device) c.acts.run) (g.D.Writable.events c.acts.device) (counted which (g.K.Sink.taken c.args.sink.now) (g.K.Sink.accepted c.args.sink.now))
-    (counted which (g.K.Sink.taken c.acts.sink) (g.K.Sink.accepted c.acts.sink)) = λ which. rw (i.setting, i.leaves.slot_count, ← next) (i.made which) in
-    let carried : (which : Bool) → Carries (setting_of c.acts.run) (progress_of (g.D.Writable.slot_count c.acts.device) c.acts.run) (made_act c.in-Some.made) (progress_of (g.D.Writable.slot_count c.acts.device) c.apply.new.self)
-    (g.D.Writable.events c.acts.device) (g.D.Writable.events c.apply.new.device) (counted which (g.K.Sink.taken c.acts.sink) (g.K.Sink.accepted c.acts.sink)) (counted which (g.K.Sink.taken c.apply.new.sink) (g.K.Sink.accepted c.apply.new.sink)) =
+    let here : (which : Bool) → MadeSoFar (setting_of c.acts.run) (g.D.Writable.view c.acts.device).slots (made_commands c.args.seed c.args.rules c.args.batches) (c.in-Some.made ∷ c.next.new.self)
+    (progress_of (g.D.Writable.view c.acts.device).slots c.acts.run) (g.D.Writable.view c.acts.device).events (counted which (g.K.Sink.taken c.args.sink.now) (g.K.Sink.accepted c.args.sink.now))
+    (counted which (g.K.Sink.taken c.acts.sink) (g.K.Sink.accepted c.acts.sink)) = λ which. rw (i.setting, i.leaves.slots, ← next) (i.made which) in
+    let carried : (which : Bool) → Carries (setting_of c.acts.run) (progress_of (g.D.Writable.view c.acts.device).slots c.acts.run) (made_act c.in-Some.made) (progress_of (g.D.Writable.view c.acts.device).slots c.apply.new.self)
+    (g.D.Writable.view c.acts.device).events (g.D.Writable.view c.apply.new.device).events (counted which (g.K.Sink.taken c.acts.sink) (g.K.Sink.accepted c.acts.sink)) (counted which (g.K.Sink.taken c.apply.new.sink) (g.K.Sink.accepted c.apply.new.sink)) =
     λ which. rw (← c.act_of_made.ensures.act) (a.acts which (made-at _ _ _ _ _ _ _ _ (here which))) in
     let are = subst (λ (maker : List Made). AreBatches (2 * c.args.rules) (length c.acts.run.pending) maker) next i.room in
     record {
@@ -87,42 +87,42 @@ acts-preserved g c =
       idle = a.idle;
       whole = a.broken;
       commits = omega (arith, one, few, more);
-      room = subst (λ come. AreBatches (2 * c.args.rules) come c.next.new.self) (sym (step-pending (setting_of c.acts.run) (progress_of (g.D.Writable.slot_count c.acts.device) c.acts.run) (made_act c.in-Some.made) (carried true).effects (progress_of (g.D.Writable.slot_count c.acts.device) c.apply.new.self) (carried true).step)) (made-pending (2 * c.args.rules) c.in-Some.made c.next.new.self (length c.acts.run.pending) are);
-      made = λ which. rw (← i.setting, ← i.leaves.slot_count) (made-more _ _ _ _ c.in-Some.made _ _ _ _ _ _ _ (here which) (carried which));
+      room = subst (λ come. AreBatches (2 * c.args.rules) come c.next.new.self) (sym (step-pending (setting_of c.acts.run) (progress_of (g.D.Writable.view c.acts.device).slots c.acts.run) (made_act c.in-Some.made) (carried true).effects (progress_of (g.D.Writable.view c.acts.device).slots c.apply.new.self) (carried true).step)) (made-pending (2 * c.args.rules) c.in-Some.made c.next.new.self (length c.acts.run.pending) are);
+      made = λ which. rw (← i.setting, ← i.leaves.slots) (made-more _ _ _ _ c.in-Some.made _ _ _ _ _ _ _ (here which) (carried which));
       none_in_flight = a.in_flight;
-      leaves = leaves-then _ _ _ _ _ _ _ _ _ _ _ ⊥ ⊥ ⊥ ⊥ (λ e. e) (λ e. e) i.leaves (leaves-none _ _ _ _ _ _ _ _ _ _ _ a.leaves (λ e. cc) (λ e. cc));
+      leaves = leaves-then _ _ _ _ _ _ _ _ ⊥ ⊥ ⊥ ⊥ (λ e. e) (λ e. e) i.leaves (leaves-none _ _ _ _ _ _ _ _ a.leaves (λ e. cc) (λ e. cc));
     }
 
 pub returns-in_default-clause-carried_out : goal.returns-in_default-clause-carried_out
 returns-in_default-clause-carried_out g c = λ which source.
     let i = c.acts.invariant in
-    let slots = g.D.Writable.slot_count c.args.device.now in
+    let slots = (g.D.Writable.view c.args.device.now).slots in
     let last = progress_of slots c.acts.run in
-    made-ended (setting_of c.args.run.now) (setting_of c.acts.run) slots c.args.seed c.args.rules c.args.batches c.acts.maker last (g.D.Writable.events c.acts.device) _ _ _ c.finish.result (i.made which) (c.in_default.ensures.end.0 refl)
+    made-ended (setting_of c.args.run.now) (setting_of c.acts.run) slots c.args.seed c.args.rules c.args.batches c.acts.maker last (g.D.Writable.view c.acts.device).events _ _ _ c.finish.result (i.made which) (c.in_default.ensures.end.0 refl)
     c.finish.ensures.kind.1 i.setting ((c.finish.ensures.closes slots).closes which) source
 
 pub returns-in_default-clause-leaves : goal.returns-in_default-clause-leaves
 returns-in_default-clause-leaves g c =
     let i = c.acts.invariant in
-    leaves-then _ _ _ _ _ _ _ _ _ _ _ ⊥ ⊥ _ _ (λ e. e) (λ e. e) i.leaves (closed-leaves _ _ _ _ _ g.K.Sink.accepted _ _ c.acts.device _ _ _ c.finish.ensures.kind.2 (c.finish.ensures.closes 0))
+    leaves-then _ _ _ _ _ _ _ _ ⊥ ⊥ _ _ (λ e. e) (λ e. e) i.leaves (closed-leaves _ _ g.K.Sink.accepted _ _ (g.D.Writable.view c.acts.device) _ _ _ c.finish.ensures.kind.2 (c.finish.ensures.closes 0))
 
 pub returns-in-Err-Stopped-clause-carried_out : goal.returns-in-Err-Stopped-clause-carried_out
 returns-in-Err-Stopped-clause-carried_out g c = λ which source.
     let i = c.acts.invariant in
     let why = c.in-Err-Stopped.why in
     let next = c.in-Some.ensures.next in
-    let slots = g.D.Writable.slot_count c.acts.device in
-    let here : MadeSoFar (setting_of c.acts.run) slots (made_commands c.args.seed c.args.rules c.args.batches) (c.in-Some.made ∷ c.next.new.self) (progress_of slots c.acts.run) (g.D.Writable.events c.acts.device)
-    (counted which (g.K.Sink.taken c.args.sink.now) (g.K.Sink.accepted c.args.sink.now)) (counted which (g.K.Sink.taken c.acts.sink) (g.K.Sink.accepted c.acts.sink)) = rw (i.setting, i.leaves.slot_count, ← next) (i.made which) in
-    let is : Stops slots (setting_of c.acts.run) (progress_of slots c.acts.run) (made_act c.in-Some.made) why (g.D.Writable.events c.acts.device) (g.D.Writable.events c.apply.new.device)
+    let slots = (g.D.Writable.view c.acts.device).slots in
+    let here : MadeSoFar (setting_of c.acts.run) slots (made_commands c.args.seed c.args.rules c.args.batches) (c.in-Some.made ∷ c.next.new.self) (progress_of slots c.acts.run) (g.D.Writable.view c.acts.device).events
+    (counted which (g.K.Sink.taken c.args.sink.now) (g.K.Sink.accepted c.args.sink.now)) (counted which (g.K.Sink.taken c.acts.sink) (g.K.Sink.accepted c.acts.sink)) = rw (i.setting, i.leaves.slots, ← next) (i.made which) in
+    let is : Stops slots (setting_of c.acts.run) (progress_of slots c.acts.run) (made_act c.in-Some.made) why (g.D.Writable.view c.acts.device).events (g.D.Writable.view c.apply.new.device).events
     (counted which (g.K.Sink.taken c.acts.sink) (g.K.Sink.accepted c.acts.sink)) (counted which (g.K.Sink.taken c.apply.new.sink) (g.K.Sink.accepted c.apply.new.sink)) =
-    rw (← c.act_of_made.ensures.act) (stops slots c.acts.run c.act_of_made.result c.apply.new.self why (g.D.Writable.events c.acts.device) (g.D.Writable.events c.apply.new.device)
+    rw (← c.act_of_made.ensures.act) (stops slots c.acts.run c.act_of_made.result c.apply.new.self why (g.D.Writable.view c.acts.device).events (g.D.Writable.view c.apply.new.device).events
     (counted which (g.K.Sink.taken c.acts.sink) (g.K.Sink.accepted c.acts.sink)) (counted which (g.K.Sink.taken c.apply.new.sink) (g.K.Sink.accepted c.apply.new.sink)) (rw c.in-Err-Stopped.field-0-is at (c.in-Err-Stopped.ensures.acts which))) in
-    rw (c.status_of_fault.ensures.status, c.in-Err-Stopped.field-0-is, ← i.setting, ← i.leaves.slot_count)
+    rw (c.status_of_fault.ensures.status, c.in-Err-Stopped.field-0-is, ← i.setting, ← i.leaves.slots)
     (made-stopped (setting_of c.acts.run) slots c.args.seed c.args.rules c.args.batches c.next.new.self c.in-Some.made (progress_of slots c.acts.run) _ _ _ _ _ why here is source)
 
 pub returns-in-Err-Stopped-clause-leaves : goal.returns-in-Err-Stopped-clause-leaves
 returns-in-Err-Stopped-clause-leaves g c =
     let i = c.acts.invariant in
     let why = c.in-Err-Stopped.why in
-    rw (c.status_of_fault.ensures.status, c.in-Err-Stopped.field-0-is) (leaves-then _ _ _ _ _ _ _ _ _ _ _ ⊥ ⊥ _ _ (λ e. e) (λ e. e) i.leaves (stopped-leaves _ _ _ _ _ _ _ _ _ why (rw c.in-Err-Stopped.field-0-is at c.in-Err-Stopped.ensures.leaves)))
+    rw (c.status_of_fault.ensures.status, c.in-Err-Stopped.field-0-is) (leaves-then _ _ _ _ _ _ _ _ ⊥ ⊥ _ _ (λ e. e) (λ e. e) i.leaves (stopped-leaves _ _ _ _ _ _ why (rw c.in-Err-Stopped.field-0-is at c.in-Err-Stopped.ensures.leaves)))

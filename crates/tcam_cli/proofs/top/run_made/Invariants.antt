@@ -14,10 +14,10 @@ invariant-acts g l = record {
   whole : l.run.broken ≡ false;
   commits : l.run.commits + length l.maker ≤ 513 * 64;
   room : AreBatches (2 * l.rules) (length l.run.pending) l.maker;
-  made : (which : Bool) → MadeSoFar (setting_of l.fn.run) (g.D.Writable.slot_count l.fn.device) (made_commands l.seed l.rules l.batches) l.maker (progress_of (g.D.Writable.slot_count l.fn.device) l.run)
-      (g.D.Writable.events l.device) (counted which (g.K.Sink.taken l.fn.sink) (g.K.Sink.accepted l.fn.sink)) (counted which (g.K.Sink.taken l.sink) (g.K.Sink.accepted l.sink));
-  none_in_flight : g.D.Writable.flight l.device ≡ [];
-  leaves : Leaves g.K.Sink.taken g.K.Sink.faults l.fn.sink l.sink g.D.Writable.slot_count g.D.Writable.journal g.D.Writable.faults l.fn.device l.device ⊥ ⊥;
+  made : (which : Bool) → MadeSoFar (setting_of l.fn.run) (g.D.Writable.view l.fn.device).slots (made_commands l.seed l.rules l.batches) l.maker (progress_of (g.D.Writable.view l.fn.device).slots l.run)
+      (g.D.Writable.view l.device).events (counted which (g.K.Sink.taken l.fn.sink) (g.K.Sink.accepted l.fn.sink)) (counted which (g.K.Sink.taken l.sink) (g.K.Sink.accepted l.sink));
+  none_in_flight : (g.D.Writable.view l.device).flight ≡ [];
+  leaves : Leaves g.K.Sink.taken g.K.Sink.faults l.fn.sink l.sink (g.D.Writable.view l.fn.device) (g.D.Writable.view l.device) ⊥ ⊥;
 }
 
 abbrev pub decreases-acts : goal.decreases-acts

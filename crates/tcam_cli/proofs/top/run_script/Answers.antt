@@ -1,4 +1,4 @@
-use Rattle.std.proofs.Common.{true, false, ◌≡◌, ◌++◌, [], Some, refl, sym, ap, ◌∙◌, subst, arith}
+use Rattle.std.proofs.Common.{true, false, ◌≡◌, ◌++◌, [], Some, refl, sym, ap, ◌∙◌, arith}
 use Rattle.std.specs.List.{concat}
 use Rattle.script_lines.specs.Given.{HasEnd, counted}
 use Rattle.script_lines.proofs.Turns.{gives-none, gives-trans, may-first, may-second, ended-both, no-more, may-all}
@@ -28,10 +28,10 @@ acts-init g c = record {
     commits = let none : c.args.run.now.commits ≡ 0 = ap (λ (p : Progress). p.commits) c.requires.begun in omega (arith, none);
     within = let none = ap (λ (h : HeldBytes). h.before) c.new-lines.ensures in omega (arith, none);
   };
-  at = ap (λ (p : Progress). p.state) c.requires.begun ∙ sym (ap (λ events. replay (g.D.Writable.slot_count c.args.device.now) (writes_in events)) c.requires.blank);
-  gives = ([], gives-none _ _, λ e. absurd e, λ which left now may. stands-first _ _ _ _ _ _ _ _ (starts (run_kind (setting_of c.args.run.now) (g.D.Writable.slot_count c.args.device.now)) left _ now _ _ _ refl refl c.new-lines.ensures (ap Some may.bytes) c.requires.begun c.requires.blank), in-time-none _ _ _ _);
+  at = ap (λ (p : Progress). p.state) c.requires.begun ∙ sym (ap (λ events. replay (g.D.Writable.view c.args.device.now).slots (writes_in events)) c.requires.blank);
+  gives = ([], gives-none _ _, λ e. absurd e, λ which left now may. stands-first _ _ _ _ _ _ _ _ (starts (run_kind (setting_of c.args.run.now) (g.D.Writable.view c.args.device.now).slots) left _ now _ _ _ refl refl c.new-lines.ensures (ap Some may.bytes) c.requires.begun c.requires.blank), in-time-none _ _ _ _);
   none_in_flight = c.requires.none_in_flight;
-  leaves = leaves-line _ _ _ _ _ _ _ _ _ ⊥ ⊥ (λ some. some) refl refl refl (uncounted ⊥ _ _ (λ e. e) refl) (λ e. e);
+  leaves = leaves-line _ _ _ _ _ _ ⊥ ⊥ (λ some. some) refl refl refl (uncounted ⊥ _ _ (λ e. e) refl) (λ e. e);
   reads = refl;
 }
 
@@ -50,16 +50,16 @@ acts-preserved g c =
         λ which left now may.
             let stays : HasEnd i.gives.0 → t.gives.0 ≡ [] = λ e. (t.gives.2 true).rests (no-more _ (i.gives.2 e)) in
             let s = i.gives.3 which left (concat t.gives.0 ++ now) (may-first left now i.gives.0 t.gives.0 may stays) in
-            rw (← i.setting, ← i.leaves.slot_count) (stands-next _ i.gives.0 t.gives.0 _ _ _ _ _ _ _ _ _ left now (t.gives.2 which) may (rw (i.setting, i.leaves.slot_count) s)),
+            rw (← i.setting, ← i.leaves.slots) (stands-next _ i.gives.0 t.gives.0 _ _ _ _ _ _ _ _ _ left now (t.gives.2 which) may (rw (i.setting, i.leaves.slots) s)),
         let round = t.gives.2 false in
             let stays : HasEnd i.gives.0 → t.gives.0 ≡ [] = λ e. round.rests (no-more _ (i.gives.2 e)) in
             let may = may-all (i.gives.0 ++ t.gives.0) in
             let s = i.gives.3 false _ (concat t.gives.0 ++ []) (may-first _ [] i.gives.0 t.gives.0 may stays) in
-            round-in-time (run_kind (setting_of c.args.run.now) (g.D.Writable.slot_count c.args.device.now)) joins i.gives.0 t.gives.0 c.acts.lines (progress_of (g.D.Writable.slot_count c.args.device.now) c.acts.run) (g.D.Writable.events c.acts.device) _ _ _ _ (λ left now may. (i.gives.3 false left now may).so_far) stays round.rests round.last
-            (round.grows (concat (i.gives.0 ++ t.gives.0)) (concat t.gives.0 ++ []) [] (Some (g.K.Sink.accepted c.args.sink.now)) (may-second _ [] i.gives.0 t.gives.0 may) (rw (i.setting, i.leaves.slot_count) s.so_far)) i.gives.4,
+            round-in-time (run_kind (setting_of c.args.run.now) (g.D.Writable.view c.args.device.now).slots) joins i.gives.0 t.gives.0 c.acts.lines (progress_of (g.D.Writable.view c.args.device.now).slots c.acts.run) (g.D.Writable.view c.acts.device).events _ _ _ _ (λ left now may. (i.gives.3 false left now may).so_far) stays round.rests round.last
+            (round.grows (concat (i.gives.0 ++ t.gives.0)) (concat t.gives.0 ++ []) [] (Some (g.K.Sink.accepted c.args.sink.now)) (may-second _ [] i.gives.0 t.gives.0 may) (rw (i.setting, i.leaves.slots) s.so_far)) i.gives.4,
       );
       none_in_flight = t.none_in_flight;
-      leaves = leaves-then _ _ _ _ _ _ _ _ _ _ _ ⊥ ⊥ ⊥ ⊥ (λ e. e) (λ e. e) i.leaves (leaves-none _ _ _ _ _ _ _ _ _ _ _ t.leaves (λ e. cc) (λ e. cc));
+      leaves = leaves-then _ _ _ _ _ _ _ _ ⊥ ⊥ ⊥ ⊥ (λ e. e) (λ e. e) i.leaves (leaves-none _ _ _ _ _ _ _ _ t.leaves (λ e. cc) (λ e. cc));
       reads = t.read.stayed (λ e. cc) ∙ i.reads;
     }
 
@@ -69,10 +69,10 @@ returns-in-Some-clause-carried_out g c =
     let t = c.in-Some.ensures in
     let stays : HasEnd i.gives.0 → t.gives.0 ≡ [] = λ e. (t.gives.2 true).rests (no-more _ (i.gives.2 e)) in
     let all = gives-trans _ _ _ _ _ _ i.gives.0 t.gives.0 i.gives.1 t.gives.1 stays (λ e. (t.rests (no-more _ (i.gives.2 e))).0) in
-    carried (setting_of c.args.run.now) (g.D.Writable.slot_count c.args.device.now) c.in-Some.status (g.S.Source.left c.args.source.now) (g.S.Source.left c.round.new.source) (g.D.Writable.events c.round.new.device) (g.K.Sink.taken c.args.sink.now) (g.K.Sink.taken c.round.new.sink)
+    carried (setting_of c.args.run.now) (g.D.Writable.view c.args.device.now).slots c.in-Some.status (g.S.Source.left c.args.source.now) (g.S.Source.left c.round.new.source) (g.D.Writable.view c.round.new.device).events (g.K.Sink.taken c.args.sink.now) (g.K.Sink.taken c.round.new.sink)
     (concat (i.gives.0 ++ t.gives.0), all.taken) (ends-told _ c.in-Some.status _ _ _ _ (i.gives.0 ++ t.gives.0) _ _ _ all (λ left taken now may parts.
     let s = i.gives.3 true left (concat t.gives.0 ++ now) (may-first left now i.gives.0 t.gives.0 may stays) in
-    rw (← i.setting, ← i.leaves.slot_count) ((t.gives.2 true).ends left taken (concat t.gives.0 ++ now) now _ (may-second left now i.gives.0 t.gives.0 may) parts (rw (i.setting, i.leaves.slot_count) s.so_far))))
+    rw (← i.setting, ← i.leaves.slots) ((t.gives.2 true).ends left taken (concat t.gives.0 ++ now) now _ (may-second left now i.gives.0 t.gives.0 may) parts (rw (i.setting, i.leaves.slots) s.so_far))))
 
 pub returns-in-Some-clause-given : goal.returns-in-Some-clause-given
 returns-in-Some-clause-given g c = λ which.
@@ -80,11 +80,11 @@ returns-in-Some-clause-given g c = λ which.
     let t = c.in-Some.ensures in
     let stays : HasEnd i.gives.0 → t.gives.0 ≡ [] = λ e. (t.gives.2 true).rests (no-more _ (i.gives.2 e)) in
     let all = gives-trans _ _ _ _ _ _ i.gives.0 t.gives.0 i.gives.1 t.gives.1 stays (λ e. (t.rests (no-more _ (i.gives.2 e))).0) in
-    promised (setting_of c.args.run.now) (g.D.Writable.slot_count c.args.device.now) c.in-Some.status (g.S.Source.given c.args.source.now) (g.S.Source.given c.round.new.source) (g.S.Source.left c.args.source.now) (g.S.Source.left c.round.new.source) (i.gives.0 ++ t.gives.0)
-    (g.D.Writable.events c.round.new.device) (counted which (g.K.Sink.taken c.args.sink.now) (g.K.Sink.accepted c.args.sink.now)) (counted which (g.K.Sink.taken c.round.new.sink) (g.K.Sink.accepted c.round.new.sink))
+    promised (setting_of c.args.run.now) (g.D.Writable.view c.args.device.now).slots c.in-Some.status (g.S.Source.given c.args.source.now) (g.S.Source.given c.round.new.source) (g.S.Source.left c.args.source.now) (g.S.Source.left c.round.new.source) (i.gives.0 ++ t.gives.0)
+    (g.D.Writable.view c.round.new.device).events (counted which (g.K.Sink.taken c.args.sink.now) (g.K.Sink.accepted c.args.sink.now)) (counted which (g.K.Sink.taken c.round.new.sink) (g.K.Sink.accepted c.round.new.sink))
     (λ e. t.no_usage (ap Some e)) all (λ left taken now may parts.
     let s = i.gives.3 which left (concat t.gives.0 ++ now) (may-first left now i.gives.0 t.gives.0 may stays) in
-    rw (← i.setting, ← i.leaves.slot_count) ((t.gives.2 which).ends left taken (concat t.gives.0 ++ now) now _ (may-second left now i.gives.0 t.gives.0 may) parts (rw (i.setting, i.leaves.slot_count) s.so_far)))
+    rw (← i.setting, ← i.leaves.slots) ((t.gives.2 which).ends left taken (concat t.gives.0 ++ now) now _ (may-second left now i.gives.0 t.gives.0 may) parts (rw (i.setting, i.leaves.slots) s.so_far)))
 
 pub returns-in-Some-clause-causes : goal.returns-in-Some-clause-causes
 returns-in-Some-clause-causes g c =
@@ -92,16 +92,16 @@ returns-in-Some-clause-causes g c =
     let t = c.in-Some.ensures in
     let stays : HasEnd i.gives.0 → t.gives.0 ≡ [] = λ e. (t.gives.2 true).rests (no-more _ (i.gives.2 e)) in
     let all = gives-trans _ _ _ _ _ _ i.gives.0 t.gives.0 i.gives.1 t.gives.1 stays (λ e. (t.rests (no-more _ (i.gives.2 e))).0) in
-    let whole : Leaves g.K.Sink.taken g.K.Sink.faults c.args.sink.now c.round.new.sink g.D.Writable.slot_count g.D.Writable.journal g.D.Writable.faults c.args.device.now c.round.new.device (c.in-Some.status ≡ WriteFault) (c.in-Some.status ≡ DeviceFault) =
-    leaves-then _ _ _ _ _ _ _ _ _ _ _ ⊥ ⊥ _ _ (λ e. e) (λ e. e) i.leaves (status-leaves _ _ _ _ _ _ _ _ _ c.in-Some.status t.leaves) in
+    let whole : Leaves g.K.Sink.taken g.K.Sink.faults c.args.sink.now c.round.new.sink (g.D.Writable.view c.args.device.now) (g.D.Writable.view c.round.new.device) (c.in-Some.status ≡ WriteFault) (c.in-Some.status ≡ DeviceFault) =
+    leaves-then _ _ _ _ _ _ _ _ ⊥ ⊥ _ _ (λ e. e) (λ e. e) i.leaves (status-leaves _ _ _ _ _ _ c.in-Some.status t.leaves) in
     record {
       read = counted-last (g.S.Source.faults c.args.source.now) (g.S.Source.faults c.acts.source) (g.S.Source.faults c.round.new.source) c.in-Some.status _ i.reads t.read;
       write = whole.sink_cause;
-      device = made-tried _ _ _ _ _ _ _ _ _ _ _ (g.met.D.Writable.agrees c.args.device.now ∙ ap writes_in c.requires.blank) whole;
-      ends = may-end (setting_of c.args.run.now) (g.D.Writable.slot_count c.args.device.now) c.in-Some.status (g.S.Source.left c.args.source.now) (g.S.Source.left c.round.new.source) (g.D.Writable.events c.round.new.device) (g.K.Sink.taken c.args.sink.now) (g.K.Sink.taken c.round.new.sink)
+      device = made-tried _ _ _ _ _ _ _ _ (ap writes_in c.requires.blank) whole;
+      ends = may-end (setting_of c.args.run.now) (g.D.Writable.view c.args.device.now).slots c.in-Some.status (g.S.Source.left c.args.source.now) (g.S.Source.left c.round.new.source) (g.D.Writable.view c.round.new.device).events (g.K.Sink.taken c.args.sink.now) (g.K.Sink.taken c.round.new.sink)
           (concat (i.gives.0 ++ t.gives.0), all.taken) (λ e. t.no_usage (ap Some e)) (ends-told _ c.in-Some.status _ _ _ _ (i.gives.0 ++ t.gives.0) _ _ _ all (λ left taken now may parts.
           let s = i.gives.3 true left (concat t.gives.0 ++ now) (may-first left now i.gives.0 t.gives.0 may stays) in
-          rw (← i.setting, ← i.leaves.slot_count) ((t.gives.2 true).ends left taken (concat t.gives.0 ++ now) now _ (may-second left now i.gives.0 t.gives.0 may) parts (rw (i.setting, i.leaves.slot_count) s.so_far))));
+          rw (← i.setting, ← i.leaves.slots) ((t.gives.2 true).ends left taken (concat t.gives.0 ++ now) now _ (may-second left now i.gives.0 t.gives.0 may) parts (rw (i.setting, i.leaves.slots) s.so_far))));
     }
 
 -- what was told stays told
@@ -123,9 +123,9 @@ returns-in-Some-clause-in_time g c =
     let all = gives-trans _ _ _ _ _ _ i.gives.0 t.gives.0 i.gives.1 t.gives.1 stays (λ e. (t.rests (no-more _ (i.gives.2 e))).0) in
     let may = may-all (i.gives.0 ++ t.gives.0) in
     let s = i.gives.3 false _ (concat t.gives.0 ++ []) (may-first _ [] i.gives.0 t.gives.0 may stays) in
-    reads-in-time (run_kind (setting_of c.args.run.now) (g.D.Writable.slot_count c.args.device.now)) c.in-Some.status _ _ (i.gives.0 ++ t.gives.0) _ _ _ all.given
-    (round-in-time (run_kind (setting_of c.args.run.now) (g.D.Writable.slot_count c.args.device.now)) joins i.gives.0 t.gives.0 c.acts.lines (progress_of (g.D.Writable.slot_count c.args.device.now) c.acts.run) (g.D.Writable.events c.acts.device) _ _ _ _ (λ left now may. (i.gives.3 false left now may).so_far) stays round.rests round.last
-    (round.grows (concat (i.gives.0 ++ t.gives.0)) (concat t.gives.0 ++ []) [] (Some (g.K.Sink.accepted c.args.sink.now)) (may-second _ [] i.gives.0 t.gives.0 may) (rw (i.setting, i.leaves.slot_count) s.so_far)) i.gives.4)
+    reads-in-time (run_kind (setting_of c.args.run.now) (g.D.Writable.view c.args.device.now).slots) c.in-Some.status _ _ (i.gives.0 ++ t.gives.0) _ _ _ all.given
+    (round-in-time (run_kind (setting_of c.args.run.now) (g.D.Writable.view c.args.device.now).slots) joins i.gives.0 t.gives.0 c.acts.lines (progress_of (g.D.Writable.view c.args.device.now).slots c.acts.run) (g.D.Writable.view c.acts.device).events _ _ _ _ (λ left now may. (i.gives.3 false left now may).so_far) stays round.rests round.last
+    (round.grows (concat (i.gives.0 ++ t.gives.0)) (concat t.gives.0 ++ []) [] (Some (g.K.Sink.accepted c.args.sink.now)) (may-second _ [] i.gives.0 t.gives.0 may) (rw (i.setting, i.leaves.slots) s.so_far)) i.gives.4)
     (λ memory front last e left after may.
-    rw (← i.setting, ← i.leaves.slot_count) (wants-in-time _ joins i.gives.0 t.gives.0 _ _ _ _ _ _ _ _ _ _ left after last front round memory may
-    (rw (i.setting, i.leaves.slot_count) (i.gives.3 false left (concat t.gives.0 ++ after) (may-first left after i.gives.0 t.gives.0 may stays))) e))
+    rw (← i.setting, ← i.leaves.slots) (wants-in-time _ joins i.gives.0 t.gives.0 _ _ _ _ _ _ _ _ _ _ left after last front round memory may
+    (rw (i.setting, i.leaves.slots) (i.gives.3 false left (concat t.gives.0 ++ after) (may-first left after i.gives.0 t.gives.0 may stays))) e))

@@ -13,15 +13,15 @@ abbrev pub invariant-acts : goal.invariant-acts
 invariant-acts g l = record {
   setting : setting_of l.run ≡ setting_of l.fn.run;
   stands : IsBetweenLines l.lines l.run;
-  at : IsAt (g.D.Writable.slot_count l.device) (g.D.Writable.events l.device) (progress_of (g.D.Writable.slot_count l.device) l.run);
+  at : IsAt (g.D.Writable.view l.device).slots (g.D.Writable.view l.device).events (progress_of (g.D.Writable.view l.device).slots l.run);
   gives : (pieces : List (List ℕ)) × GivesPieces (g.S.Source.given l.fn.source) (g.S.Source.given l.source) (g.S.Source.left l.fn.source) (g.S.Source.left l.source) pieces
       × (HasEnd pieces → l.lines.over ≡ over.Ended)
       × ((which : Bool) (left now : List ℕ) → MayGive left pieces now
-      → StandsAt (run_kind (setting_of l.fn.run) (g.D.Writable.slot_count l.fn.device)) pieces left l.lines now (progress_of (g.D.Writable.slot_count l.fn.device) l.run)
-      (g.D.Writable.events l.device) (counted which (g.K.Sink.taken l.fn.sink) (g.K.Sink.accepted l.fn.sink)) (counted which (g.K.Sink.taken l.sink) (g.K.Sink.accepted l.sink)))
-      × InTime (run_kind (setting_of l.fn.run) (g.D.Writable.slot_count l.fn.device)) pieces (g.D.Writable.events l.device) (g.K.Sink.accepted l.fn.sink) (g.K.Sink.accepted l.sink);
-  none_in_flight : g.D.Writable.flight l.device ≡ [];
-  leaves : Leaves g.K.Sink.taken g.K.Sink.faults l.fn.sink l.sink g.D.Writable.slot_count g.D.Writable.journal g.D.Writable.faults l.fn.device l.device ⊥ ⊥;
+      → StandsAt (run_kind (setting_of l.fn.run) (g.D.Writable.view l.fn.device).slots) pieces left l.lines now (progress_of (g.D.Writable.view l.fn.device).slots l.run)
+      (g.D.Writable.view l.device).events (counted which (g.K.Sink.taken l.fn.sink) (g.K.Sink.accepted l.fn.sink)) (counted which (g.K.Sink.taken l.sink) (g.K.Sink.accepted l.sink)))
+      × InTime (run_kind (setting_of l.fn.run) (g.D.Writable.view l.fn.device).slots) pieces (g.D.Writable.view l.device).events (g.K.Sink.accepted l.fn.sink) (g.K.Sink.accepted l.sink);
+  none_in_flight : (g.D.Writable.view l.device).flight ≡ [];
+  leaves : Leaves g.K.Sink.taken g.K.Sink.faults l.fn.sink l.sink (g.D.Writable.view l.fn.device) (g.D.Writable.view l.device) ⊥ ⊥;
   reads : g.S.Source.faults l.source ≡ g.S.Source.faults l.fn.source;
 }
 

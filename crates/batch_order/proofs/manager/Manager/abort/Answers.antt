@@ -6,7 +6,6 @@ use Rattle.batch_order.specs.Managed.{Managed}
 use Rattle.batch_order.specs.Steps.{Aborts}
 use Rattle.batch_order.proofs.back.Aborted.{KeepsOn, aborts_by, keeps_on, managed_by}
 use Rattle.batch_order.proofs.under_way.Carried.{view_of}
-use Rattle.batch_order.proofs.back.Passed.{goes_back}
 use Rattle.batch_order.proofs.manager.Manager.abort.Goals as goal
 use Rattle.batch_order.proofs.manager.Manager.abort.Goals.{in-None, in-Some}
 
@@ -46,23 +45,6 @@ kept c = keeps_on c.args.self.now _ c.match-self.result (returns-clause-aborts c
 
 pub returns-clause-way_back : goal.returns-clause-way_back
 returns-clause-way_back c = (kept c).way_back
-
-pub returns-clause-goes_back : goal.returns-clause-goes_back
-returns-clause-goes_back c begun way =
-    goes_back begun (view_of c.match-self.self-inside.placement c.match-self.self-inside.translation c.match-self.self-inside.rules c.match-self.self-inside.live c.match-self.self-inside.arrangement c.match-self.self-inside.held)
-    ((kept c).way_back begun way)
-
-pub returns-clause-room : goal.returns-clause-room
-returns-clause-room c = (kept c).room
-
-pub returns-clause-both_ways : goal.returns-clause-both_ways
-returns-clause-both_ways c = (kept c).both
-
-pub returns-clause-state : goal.returns-clause-state
-returns-clause-state c = (kept c).state
-
-pub returns-clause-slots : goal.returns-clause-slots
-returns-clause-slots c = (kept c).slots
 
 pub returns-clause-current : goal.returns-clause-current
 returns-clause-current c = (kept c).current

@@ -1,39 +1,38 @@
-use Rattle.std.proofs.Common.{◌≡◌, ◌+◌, ◌++◌, [], ◌∷◌, ℕ, List, Option, Some, None, IsSome, length, refl, ap, subst, ◌∙◌, arith, append-nil}
+use Rattle.std.proofs.Common.{◌≡◌, ◌+◌, ◌++◌, [], ◌∷◌, ℕ, List, Option, Some, None, IsSome, length, refl, sym, ap, subst, ◌∙◌, arith}
 use Rattle.std.specs.Prelude.{option_map, unwrap_or}
 use Rattle.rule_model.specs.declared.Rule.{Rule}
 use Rattle.tcam_device.specs.declared.Write.{Write}
 use Rattle.tcam_device.specs.declared.Action.TheVariants.{Written, Drained}
 use Rattle.tcam_device.specs.State.{replay}
-use Rattle.tcam_device.specs.Flight.{writes_in}
 use Rattle.tcam_device.specs.Hitless.{ShowsOldOrNew}
+use Rattle.tcam_device.specs.View.{DeviceView, HasMade, journal}
 use Rattle.batch_order.specs.declared.Step.{Step}
 use Rattle.batch_order.specs.declared.Step.TheVariants as step
+use Rattle.batch_order.specs.declared.Unfinished.TheVariants as unfinished
 use Rattle.batch_order.specs.Managed.{Managed, HeldCommit, writes_due}
 use Rattle.batch_order.specs.Steps.{Steps, actions_of, next_of}
-use Rattle.batch_order.specs.CarriedOut.{IsServed, ahead, writes_left}
+use Rattle.batch_order.specs.CarriedOut.{IsServed, StopsBy, ahead, writes_left}
+use Rattle.batch_order.proofs.Leaving.{leaves_more, same_leaves}
+use Rattle.batch_order.proofs.Made.{journal_made, journal_same}
 use Rattle.batch_order.proofs.served.Ahead.{by_journal}
 use Rattle.batch_order.proofs.under_way.Onward.{IsSame, reverted, same}
 use Rattle.batch_order.proofs.served.Served.{at-first, either, more}
-use Rattle.batch_order.proofs.under_way.Stepped.{none_drained}
-use Rattle.batch_order.proofs.under_way.Tried.{done_and_still_left, goes-drained, goes-start, goes-wrote}
+use Rattle.batch_order.proofs.under_way.Stepped.{none_drained, room_after}
+use Rattle.batch_order.proofs.under_way.Tried.{goes-drained, goes-start, goes-wrote, stood, waited}
 use Rattle.batch_order.proofs.manager.Manager.carry_out.Goals as goal
 
 pub carrying-init : goal.carrying-init
 carrying-init g c =
-    let slots = g.D.Writable.slot_count c.args.device.now in
-    let journal = g.D.Writable.journal c.args.device.now in
+    let view : DeviceView = g.D.Writable.view c.args.device.now in
     let m : Managed = c.args.self.now in
     record {
-      goes = goes-start m journal (g.D.Writable.events c.args.device.now) (g.D.Writable.spare c.args.device.now) c.args.tries (g.D.Writable.faults c.args.device.now);
-      slot_count = refl;
-      flight = refl;
+      goes = goes-start m view c.args.tries;
       slots = refl;
       room = c.requires.room;
-      both = λ both. both;
-      forward = λ forward. forward;
+      leaves = same_leaves m m view.spare view.spare refl (omega arith);
       way = λ begun way. way;
       on = λ on. on;
-      served = λ on. at-first slots journal m.rules (ahead m) (either (replay slots journal) m.rules m.held (by_journal slots journal m c.requires.slots c.serving.ensures.serves on));
+      served = λ on. at-first view.slots (journal view) m.rules (ahead m) (either (replay view.slots (journal view)) m.rules m.held (by_journal view.slots (journal view) m c.requires.slots c.serving.ensures.serves on));
       below = c.requires.tries;
       due = λ some. absurd (omega arith);
     }
@@ -46,35 +45,29 @@ carrying-preserved-in-Ok-Wrote g c =
     let m' : Managed = c.step.new.self in
     let old : Managed = c.args.self.now in
     let write : Write = c.in-Ok-Wrote.field-0-0 in
-    let flying : ℕ = length (g.D.Writable.flight c.carrying.device) in
-    let slots = g.D.Writable.slot_count c.step.new.device in
-    let journal' : List Write = g.D.Writable.journal c.step.new.device in
+    let at : DeviceView = g.D.Writable.view c.carrying.device in
+    let after : DeviceView = g.D.Writable.view c.step.new.device in
+    let begun : DeviceView = g.D.Writable.view c.args.device.now in
+    let flying : ℕ = length at.flight in
     let steps : Steps m flying m.held (step.Wrote write) m' = subst (λ (s : Step). Steps m flying m.held s m') c.in-Ok-Wrote.field-0-is made.stepped in
-    let longer : journal' ≡ g.D.Writable.journal c.carrying.device ++ write ∷ [] =
-    made.journal ∙ ap (λ (s : Step). g.D.Writable.journal c.carrying.device ++ writes_in (actions_of s)) c.in-Ok-Wrote.field-0-is in
-    let logged : g.D.Writable.events c.step.new.device ≡ g.D.Writable.events c.carrying.device ++ Written write ∷ [] =
-    made.events ∙ ap (λ (s : Step). g.D.Writable.events c.carrying.device ++ actions_of s) c.in-Ok-Wrote.field-0-is in
-    let fewer : g.D.Writable.spare c.step.new.device + 1 ≡ g.D.Writable.spare c.carrying.device =
-    subst (λ (s : Step). g.D.Writable.spare c.step.new.device + length (actions_of s) ≡ g.D.Writable.spare c.carrying.device) c.in-Ok-Wrote.field-0-is made.spare in
-    let count : g.D.Writable.faults c.step.new.device ≡ g.D.Writable.faults c.carrying.device = made.cause.stayed in
-    let goes = goes-wrote old m m' flying write _ _ journal' _ _ _ _ _ _ c.args.tries c.carrying.failures _ _ inv.goes steps longer logged fewer inv.below in
+    let did : HasMade (Written write ∷ []) at after = subst (λ (s : Step). HasMade (actions_of s) at after) c.in-Ok-Wrote.field-0-is made.made in
+    let longer : journal after ≡ journal at ++ write ∷ [] = journal_made (Written write ∷ []) at after did in
+    let goes = goes-wrote old m m' flying write begun at after c.args.tries c.carrying.failures inv.goes steps did made.cause.stayed inv.below in
     let keeps : IsSame old m' = same old m' old.held goes.made refl goes.onward in
     record {
-      goes = rw count goes;
-      slot_count = made.slot_count ∙ inv.slot_count;
-      flight = made.flight ∙ inv.flight;
+      goes = goes;
       slots = keeps.slots;
-      room = made.room;
-      both = λ both. made.both_ways (inv.both both);
-      forward = λ forward. made.forward (inv.forward forward);
-      way = λ begun way. made.way_back begun (inv.way begun way);
+      room = room_after m flying m.held (step.Wrote write) m' at.spare after.spare refl steps inv.room did.spare;
+      leaves = leaves_more old m m' begun.spare at.spare after.spare inv.leaves made.leaves;
+      way = λ first way. made.way_back first (inv.way first way);
       on = λ on. made.stays_on (inv.on on);
       served = λ on.
-          let shown : ShowsOldOrNew (replay slots journal') m'.rules (ahead m') = either (replay slots journal') m'.rules m'.held (made.serves (inv.on on)) in
-          let shows : ShowsOldOrNew (replay slots journal') old.rules (ahead old) =
-          subst (λ (r : List Rule). ShowsOldOrNew (replay slots journal') r (ahead old)) keeps.rules (subst (λ (r : List Rule). ShowsOldOrNew (replay slots journal') m'.rules r) keeps.ahead shown) in
-          let served : IsServed slots (g.D.Writable.journal c.args.device.now) (g.D.Writable.journal c.carrying.device) old.rules (ahead old) = rw made.slot_count (inv.served on) in
-          more slots _ _ journal' old.rules (ahead old) write served longer shows;
+          let shown : ShowsOldOrNew (replay after.slots (journal after)) m'.rules (ahead m') = either (replay after.slots (journal after)) m'.rules m'.held (made.serves (inv.on on)) in
+          let shows : ShowsOldOrNew (replay after.slots (journal after)) old.rules (ahead old) =
+          subst (λ (r : List Rule). ShowsOldOrNew (replay after.slots (journal after)) r (ahead old)) keeps.rules
+          (subst (λ (r : List Rule). ShowsOldOrNew (replay after.slots (journal after)) m'.rules r) keeps.ahead shown) in
+          let served : IsServed after.slots (journal begun) (journal at) old.rules (ahead old) = rw did.slots (inv.served on) in
+          more after.slots (journal begun) (journal at) (journal after) old.rules (ahead old) write served longer shows;
       below = c.requires.tries;
       due = λ some. absurd (omega arith);
     }
@@ -86,31 +79,27 @@ carrying-preserved-in-Ok-Drained g c =
     let m : Managed = c.carrying.self in
     let m' : Managed = c.step.new.self in
     let old : Managed = c.args.self.now in
-    let flying : ℕ = length (g.D.Writable.flight c.carrying.device) in
-    let journal' : List Write = g.D.Writable.journal c.step.new.device in
+    let at : DeviceView = g.D.Writable.view c.carrying.device in
+    let after : DeviceView = g.D.Writable.view c.step.new.device in
+    let begun : DeviceView = g.D.Writable.view c.args.device.now in
+    let flying : ℕ = length at.flight in
     let steps : Steps m flying m.held step.Drained m' = subst (λ (s : Step). Steps m flying m.held s m') c.in-Ok-Drained.field-0-is made.stepped in
-    let same_journal : journal' ≡ g.D.Writable.journal c.carrying.device ++ [] =
-    made.journal ∙ ap (λ (s : Step). g.D.Writable.journal c.carrying.device ++ writes_in (actions_of s)) c.in-Ok-Drained.field-0-is in
-    let logged : g.D.Writable.events c.step.new.device ≡ g.D.Writable.events c.carrying.device ++ Drained ∷ [] =
-    made.events ∙ ap (λ (s : Step). g.D.Writable.events c.carrying.device ++ actions_of s) c.in-Ok-Drained.field-0-is in
-    let fewer : g.D.Writable.spare c.step.new.device + 1 ≡ g.D.Writable.spare c.carrying.device =
-    subst (λ (s : Step). g.D.Writable.spare c.step.new.device + length (actions_of s) ≡ g.D.Writable.spare c.carrying.device) c.in-Ok-Drained.field-0-is made.spare in
-    let count : g.D.Writable.faults c.step.new.device ≡ g.D.Writable.faults c.carrying.device = made.cause.stayed in
-    let goes = goes-drained old m m' flying _ _ journal' _ _ _ _ _ _ c.args.tries c.carrying.failures _ _ inv.goes steps same_journal logged fewer in
+    let did : HasMade (Drained ∷ []) at after = subst (λ (s : Step). HasMade (actions_of s) at after) c.in-Ok-Drained.field-0-is made.made in
+    let goes = goes-drained old m m' flying begun at after c.args.tries c.carrying.failures inv.goes steps did made.cause.stayed in
     let keeps : IsSame old m' = same old m' old.held goes.made refl goes.onward in
     let none : next_of m.held ≡ None = none_drained m flying m.held m' steps in
-    let stays : journal' ≡ g.D.Writable.journal c.carrying.device = same_journal ∙ append-nil _ in
+    let stays : journal after ≡ journal at = journal_same (Drained ∷ []) at after did refl in
     record {
-      goes = rw count goes;
-      slot_count = made.slot_count ∙ inv.slot_count;
-      flight = made.flight ∙ inv.flight;
+      goes = goes;
       slots = keeps.slots;
-      room = made.room;
-      both = λ both. made.both_ways (inv.both both);
-      forward = λ forward. made.forward (inv.forward forward);
-      way = λ begun way. made.way_back begun (inv.way begun way);
+      room = room_after m flying m.held step.Drained m' at.spare after.spare refl steps inv.room did.spare;
+      leaves = leaves_more old m m' begun.spare at.spare after.spare inv.leaves made.leaves;
+      way = λ first way. made.way_back first (inv.way first way);
       on = λ on. made.stays_on (inv.on on);
-      served = λ on. rw (made.slot_count, stays) (inv.served on);
+      served = λ on.
+          let served : IsServed at.slots (journal begun) (journal at) old.rules (ahead old) = inv.served on in
+          subst (λ (ws : List Write). IsServed after.slots (journal begun) ws old.rules (ahead old)) (sym stays)
+          (subst (λ (n : ℕ). IsServed n (journal begun) (journal at) old.rules (ahead old)) (sym did.slots) served);
       below = inv.below;
       due = λ some. absurd (let clash : IsSome (next_of m.held) = inv.due some in let no : IsSome {T = Write} None = subst (λ (n : Option Write). IsSome n) none clash in cc);
     }
@@ -125,28 +114,145 @@ returns-in-Ok-Reverted-clause-stopped g c =
     let made = c.in-Ok-Reverted.ensures in
     let inv = c.carrying.invariant in
     let m : Managed = c.carrying.self in
-    let old : Managed = c.args.self.now in
+    let m' : Managed = c.step.new.self in
+    let at : DeviceView = g.D.Writable.view c.carrying.device in
+    let after : DeviceView = g.D.Writable.view c.step.new.device in
+    let begun : DeviceView = g.D.Writable.view c.args.device.now in
     let undone : ℕ = c.in-Ok-Reverted.undone in
-    let flying : ℕ = length (g.D.Writable.flight c.carrying.device) in
-    let did : Step = c.in-Ok-Reverted.field-0 in
-    let is : did ≡ step.Reverted undone = c.in-Ok-Reverted.field-0-is in
-    let steps : Steps m flying m.held (step.Reverted undone) c.step.new.self = subst (λ (s : Step). Steps m flying m.held s c.step.new.self) is made.stepped in
-    let journal : g.D.Writable.journal c.step.new.device ≡ g.D.Writable.journal c.carrying.device =
-    made.journal ∙ ap (λ (s : Step). g.D.Writable.journal c.carrying.device ++ writes_in (actions_of s)) is ∙ append-nil _ in
-    (reverted old m c.step.new.self flying undone old.held inv.goes.made (g.D.Writable.journal c.args.device.now) (g.D.Writable.journal c.step.new.device) refl inv.goes.onward steps (journal ∙ inv.goes.journal)).reverts
+    let flying : ℕ = length at.flight in
+    let steps : Steps m flying m.held (step.Reverted undone) m' = subst (λ (s : Step). Steps m flying m.held s m') c.in-Ok-Reverted.field-0-is made.stepped in
+    let did : HasMade [] at after = subst (λ (s : Step). HasMade (actions_of s) at after) c.in-Ok-Reverted.field-0-is made.made in
+    (reverted c.args.self.now m m' flying undone c.args.self.now.held inv.goes.made (journal begun) (journal after) refl inv.goes.onward steps (journal_same [] at after did refl ∙ inv.goes.journal)).reverts
 
-pub returns-in-Ok-Finished-clause-events_left : goal.returns-in-Ok-Finished-clause-events_left
-returns-in-Ok-Finished-clause-events_left g c = done_and_still_left c.args.self.now c.carrying.self c.step.new.self (length (g.D.Writable.flight c.carrying.device)) c.in-Ok-Finished.field-0 _ _ _ _ _ _ _ _ _ _ _ c.carrying.invariant.goes
-    (ap actions_of c.in-Ok-Finished.field-0-is) c.in-Ok-Finished.ensures.stepped c.in-Ok-Finished.ensures.events
+pub returns-in-Ok-Finished-clause-carried : goal.returns-in-Ok-Finished-clause-carried
+returns-in-Ok-Finished-clause-carried g c =
+    (stood c.args.self.now c.carrying.self c.step.new.self (length (g.D.Writable.view c.carrying.device).flight) c.in-Ok-Finished.field-0
+    (g.D.Writable.view c.args.device.now) (g.D.Writable.view c.carrying.device) (g.D.Writable.view c.step.new.device) c.args.tries c.carrying.failures c.carrying.invariant.goes c.carrying.invariant.due
+    (ap actions_of c.in-Ok-Finished.field-0-is) c.in-Ok-Finished.ensures.stepped c.in-Ok-Finished.ensures.made c.in-Ok-Finished.ensures.cause.stayed).carried
 
-pub returns-in-Ok-Idle-clause-events_left : goal.returns-in-Ok-Idle-clause-events_left
-returns-in-Ok-Idle-clause-events_left g c = done_and_still_left c.args.self.now c.carrying.self c.step.new.self (length (g.D.Writable.flight c.carrying.device)) c.in-Ok-Idle.field-0 _ _ _ _ _ _ _ _ _ _ _ c.carrying.invariant.goes
-    (ap actions_of c.in-Ok-Idle.field-0-is) c.in-Ok-Idle.ensures.stepped c.in-Ok-Idle.ensures.events
+pub returns-in-Ok-Finished-clause-tried : goal.returns-in-Ok-Finished-clause-tried
+returns-in-Ok-Finished-clause-tried g c =
+    (stood c.args.self.now c.carrying.self c.step.new.self (length (g.D.Writable.view c.carrying.device).flight) c.in-Ok-Finished.field-0
+    (g.D.Writable.view c.args.device.now) (g.D.Writable.view c.carrying.device) (g.D.Writable.view c.step.new.device) c.args.tries c.carrying.failures c.carrying.invariant.goes c.carrying.invariant.due
+    (ap actions_of c.in-Ok-Finished.field-0-is) c.in-Ok-Finished.ensures.stepped c.in-Ok-Finished.ensures.made c.in-Ok-Finished.ensures.cause.stayed).tried ⊥ (λ stuck. stuck)
 
-pub returns-in-Ok-Waiting-clause-events_left : goal.returns-in-Ok-Waiting-clause-events_left
-returns-in-Ok-Waiting-clause-events_left g c = done_and_still_left c.args.self.now c.carrying.self c.step.new.self (length (g.D.Writable.flight c.carrying.device)) c.in-Ok-Waiting.field-0 _ _ _ _ _ _ _ _ _ _ _ c.carrying.invariant.goes
-    (ap actions_of c.in-Ok-Waiting.field-0-is) c.in-Ok-Waiting.ensures.stepped c.in-Ok-Waiting.ensures.events
+pub returns-in-Ok-Finished-clause-hitless : goal.returns-in-Ok-Finished-clause-hitless
+returns-in-Ok-Finished-clause-hitless g c on =
+    let begun : DeviceView = g.D.Writable.view c.args.device.now in
+    let after : DeviceView = g.D.Writable.view c.step.new.device in
+    let old : Managed = c.args.self.now in
+    let same = (stood c.args.self.now c.carrying.self c.step.new.self (length (g.D.Writable.view c.carrying.device).flight) c.in-Ok-Finished.field-0
+    (g.D.Writable.view c.args.device.now) (g.D.Writable.view c.carrying.device) (g.D.Writable.view c.step.new.device) c.args.tries c.carrying.failures c.carrying.invariant.goes c.carrying.invariant.due
+    (ap actions_of c.in-Ok-Finished.field-0-is) c.in-Ok-Finished.ensures.stepped c.in-Ok-Finished.ensures.made c.in-Ok-Finished.ensures.cause.stayed).same in
+    subst (λ (ws : List Write). IsServed after.slots (journal begun) ws old.rules (ahead old)) (sym same)
+    (subst (λ (n : ℕ). IsServed n (journal begun) (journal (g.D.Writable.view c.carrying.device)) old.rules (ahead old)) (sym c.in-Ok-Finished.ensures.made.slots) (c.carrying.invariant.served on))
 
-pub returns-in-Ok-Reverted-clause-events_left : goal.returns-in-Ok-Reverted-clause-events_left
-returns-in-Ok-Reverted-clause-events_left g c = done_and_still_left c.args.self.now c.carrying.self c.step.new.self (length (g.D.Writable.flight c.carrying.device)) c.in-Ok-Reverted.field-0 _ _ _ _ _ _ _ _ _ _ _ c.carrying.invariant.goes
-    (ap actions_of c.in-Ok-Reverted.field-0-is) c.in-Ok-Reverted.ensures.stepped c.in-Ok-Reverted.ensures.events
+pub returns-in-Ok-Idle-clause-carried : goal.returns-in-Ok-Idle-clause-carried
+returns-in-Ok-Idle-clause-carried g c =
+    (stood c.args.self.now c.carrying.self c.step.new.self (length (g.D.Writable.view c.carrying.device).flight) c.in-Ok-Idle.field-0
+    (g.D.Writable.view c.args.device.now) (g.D.Writable.view c.carrying.device) (g.D.Writable.view c.step.new.device) c.args.tries c.carrying.failures c.carrying.invariant.goes c.carrying.invariant.due
+    (ap actions_of c.in-Ok-Idle.field-0-is) c.in-Ok-Idle.ensures.stepped c.in-Ok-Idle.ensures.made c.in-Ok-Idle.ensures.cause.stayed).carried
+
+pub returns-in-Ok-Idle-clause-tried : goal.returns-in-Ok-Idle-clause-tried
+returns-in-Ok-Idle-clause-tried g c =
+    (stood c.args.self.now c.carrying.self c.step.new.self (length (g.D.Writable.view c.carrying.device).flight) c.in-Ok-Idle.field-0
+    (g.D.Writable.view c.args.device.now) (g.D.Writable.view c.carrying.device) (g.D.Writable.view c.step.new.device) c.args.tries c.carrying.failures c.carrying.invariant.goes c.carrying.invariant.due
+    (ap actions_of c.in-Ok-Idle.field-0-is) c.in-Ok-Idle.ensures.stepped c.in-Ok-Idle.ensures.made c.in-Ok-Idle.ensures.cause.stayed).tried ⊥ (λ stuck. stuck)
+
+pub returns-in-Ok-Idle-clause-hitless : goal.returns-in-Ok-Idle-clause-hitless
+returns-in-Ok-Idle-clause-hitless g c on =
+    let begun : DeviceView = g.D.Writable.view c.args.device.now in
+    let after : DeviceView = g.D.Writable.view c.step.new.device in
+    let old : Managed = c.args.self.now in
+    let same = (stood c.args.self.now c.carrying.self c.step.new.self (length (g.D.Writable.view c.carrying.device).flight) c.in-Ok-Idle.field-0
+    (g.D.Writable.view c.args.device.now) (g.D.Writable.view c.carrying.device) (g.D.Writable.view c.step.new.device) c.args.tries c.carrying.failures c.carrying.invariant.goes c.carrying.invariant.due
+    (ap actions_of c.in-Ok-Idle.field-0-is) c.in-Ok-Idle.ensures.stepped c.in-Ok-Idle.ensures.made c.in-Ok-Idle.ensures.cause.stayed).same in
+    subst (λ (ws : List Write). IsServed after.slots (journal begun) ws old.rules (ahead old)) (sym same)
+    (subst (λ (n : ℕ). IsServed n (journal begun) (journal (g.D.Writable.view c.carrying.device)) old.rules (ahead old)) (sym c.in-Ok-Idle.ensures.made.slots) (c.carrying.invariant.served on))
+
+pub returns-in-Ok-Waiting-clause-carried : goal.returns-in-Ok-Waiting-clause-carried
+returns-in-Ok-Waiting-clause-carried g c =
+    (stood c.args.self.now c.carrying.self c.step.new.self (length (g.D.Writable.view c.carrying.device).flight) c.in-Ok-Waiting.field-0
+    (g.D.Writable.view c.args.device.now) (g.D.Writable.view c.carrying.device) (g.D.Writable.view c.step.new.device) c.args.tries c.carrying.failures c.carrying.invariant.goes c.carrying.invariant.due
+    (ap actions_of c.in-Ok-Waiting.field-0-is) c.in-Ok-Waiting.ensures.stepped c.in-Ok-Waiting.ensures.made c.in-Ok-Waiting.ensures.cause.stayed).carried
+
+pub returns-in-Ok-Waiting-clause-tried : goal.returns-in-Ok-Waiting-clause-tried
+returns-in-Ok-Waiting-clause-tried g c =
+    (stood c.args.self.now c.carrying.self c.step.new.self (length (g.D.Writable.view c.carrying.device).flight) c.in-Ok-Waiting.field-0
+    (g.D.Writable.view c.args.device.now) (g.D.Writable.view c.carrying.device) (g.D.Writable.view c.step.new.device) c.args.tries c.carrying.failures c.carrying.invariant.goes c.carrying.invariant.due
+    (ap actions_of c.in-Ok-Waiting.field-0-is) c.in-Ok-Waiting.ensures.stepped c.in-Ok-Waiting.ensures.made c.in-Ok-Waiting.ensures.cause.stayed).tried ⊥ (λ stuck. stuck)
+
+pub returns-in-Ok-Waiting-clause-hitless : goal.returns-in-Ok-Waiting-clause-hitless
+returns-in-Ok-Waiting-clause-hitless g c on =
+    let begun : DeviceView = g.D.Writable.view c.args.device.now in
+    let after : DeviceView = g.D.Writable.view c.step.new.device in
+    let old : Managed = c.args.self.now in
+    let same = (stood c.args.self.now c.carrying.self c.step.new.self (length (g.D.Writable.view c.carrying.device).flight) c.in-Ok-Waiting.field-0
+    (g.D.Writable.view c.args.device.now) (g.D.Writable.view c.carrying.device) (g.D.Writable.view c.step.new.device) c.args.tries c.carrying.failures c.carrying.invariant.goes c.carrying.invariant.due
+    (ap actions_of c.in-Ok-Waiting.field-0-is) c.in-Ok-Waiting.ensures.stepped c.in-Ok-Waiting.ensures.made c.in-Ok-Waiting.ensures.cause.stayed).same in
+    subst (λ (ws : List Write). IsServed after.slots (journal begun) ws old.rules (ahead old)) (sym same)
+    (subst (λ (n : ℕ). IsServed n (journal begun) (journal (g.D.Writable.view c.carrying.device)) old.rules (ahead old)) (sym c.in-Ok-Waiting.ensures.made.slots) (c.carrying.invariant.served on))
+
+pub returns-in-Ok-Reverted-clause-carried : goal.returns-in-Ok-Reverted-clause-carried
+returns-in-Ok-Reverted-clause-carried g c =
+    (stood c.args.self.now c.carrying.self c.step.new.self (length (g.D.Writable.view c.carrying.device).flight) c.in-Ok-Reverted.field-0
+    (g.D.Writable.view c.args.device.now) (g.D.Writable.view c.carrying.device) (g.D.Writable.view c.step.new.device) c.args.tries c.carrying.failures c.carrying.invariant.goes c.carrying.invariant.due
+    (ap actions_of c.in-Ok-Reverted.field-0-is) c.in-Ok-Reverted.ensures.stepped c.in-Ok-Reverted.ensures.made c.in-Ok-Reverted.ensures.cause.stayed).carried
+
+pub returns-in-Ok-Reverted-clause-tried : goal.returns-in-Ok-Reverted-clause-tried
+returns-in-Ok-Reverted-clause-tried g c =
+    (stood c.args.self.now c.carrying.self c.step.new.self (length (g.D.Writable.view c.carrying.device).flight) c.in-Ok-Reverted.field-0
+    (g.D.Writable.view c.args.device.now) (g.D.Writable.view c.carrying.device) (g.D.Writable.view c.step.new.device) c.args.tries c.carrying.failures c.carrying.invariant.goes c.carrying.invariant.due
+    (ap actions_of c.in-Ok-Reverted.field-0-is) c.in-Ok-Reverted.ensures.stepped c.in-Ok-Reverted.ensures.made c.in-Ok-Reverted.ensures.cause.stayed).tried ⊥ (λ stuck. stuck)
+
+pub returns-in-Ok-Reverted-clause-hitless : goal.returns-in-Ok-Reverted-clause-hitless
+returns-in-Ok-Reverted-clause-hitless g c on =
+    let begun : DeviceView = g.D.Writable.view c.args.device.now in
+    let after : DeviceView = g.D.Writable.view c.step.new.device in
+    let old : Managed = c.args.self.now in
+    let same = (stood c.args.self.now c.carrying.self c.step.new.self (length (g.D.Writable.view c.carrying.device).flight) c.in-Ok-Reverted.field-0
+    (g.D.Writable.view c.args.device.now) (g.D.Writable.view c.carrying.device) (g.D.Writable.view c.step.new.device) c.args.tries c.carrying.failures c.carrying.invariant.goes c.carrying.invariant.due
+    (ap actions_of c.in-Ok-Reverted.field-0-is) c.in-Ok-Reverted.ensures.stepped c.in-Ok-Reverted.ensures.made c.in-Ok-Reverted.ensures.cause.stayed).same in
+    subst (λ (ws : List Write). IsServed after.slots (journal begun) ws old.rules (ahead old)) (sym same)
+    (subst (λ (n : ℕ). IsServed n (journal begun) (journal (g.D.Writable.view c.carrying.device)) old.rules (ahead old)) (sym c.in-Ok-Reverted.ensures.made.slots) (c.carrying.invariant.served on))
+
+pub returns-in-Ok-Waiting-clause-stopped : goal.returns-in-Ok-Waiting-clause-stopped
+returns-in-Ok-Waiting-clause-stopped g c =
+    let inv = c.carrying.invariant in
+    let m : Managed = c.carrying.self in
+    let m' : Managed = c.step.new.self in
+    let begun : DeviceView = g.D.Writable.view c.args.device.now in
+    let at : DeviceView = g.D.Writable.view c.carrying.device in
+    let after : DeviceView = g.D.Writable.view c.step.new.device in
+    let words : ℕ = c.in-Ok-Waiting.words in
+    let steps : Steps m (length at.flight) m.held (step.Waiting words) m' = subst (λ (s : Step). Steps m (length at.flight) m.held s m') c.in-Ok-Waiting.field-0-is c.in-Ok-Waiting.ensures.stepped in
+    let told = (stood c.args.self.now c.carrying.self c.step.new.self (length (g.D.Writable.view c.carrying.device).flight) c.in-Ok-Waiting.field-0
+    (g.D.Writable.view c.args.device.now) (g.D.Writable.view c.carrying.device) (g.D.Writable.view c.step.new.device) c.args.tries c.carrying.failures c.carrying.invariant.goes c.carrying.invariant.due
+    (ap actions_of c.in-Ok-Waiting.field-0-is) c.in-Ok-Waiting.ensures.stepped c.in-Ok-Waiting.ensures.made c.in-Ok-Waiting.ensures.cause.stayed).told in
+    let counted = c.left.ensures in
+    let unwrapped = c.unwrap_or-left.ensures in
+    let all = left-of m'.held in
+    let left : c.unwrap_or-left.result ≡ length (writes_left m'.held) = cc in
+    let so : StopsBy c.args.self.now m' (journal begun) (journal after) (length at.flight) (unfinished.Waiting words c.unwrap_or-left.result) =
+    waited c.args.self.now m m' (length at.flight) words c.args.self.now.held inv.goes.made (journal begun) (journal after) c.unwrap_or-left.result refl inv.goes.onward steps left told in
+    subst (λ (n : ℕ). StopsBy c.args.self.now m' (journal begun) (journal after) n (unfinished.Waiting words c.unwrap_or-left.result)) (ap length inv.goes.done.flight) so
+
+pub returns-in-Ok-Finished-clause-leaves : goal.returns-in-Ok-Finished-clause-leaves
+returns-in-Ok-Finished-clause-leaves g c =
+    leaves_more c.args.self.now c.carrying.self c.step.new.self (g.D.Writable.view c.args.device.now).spare (g.D.Writable.view c.carrying.device).spare (g.D.Writable.view c.step.new.device).spare
+    c.carrying.invariant.leaves c.in-Ok-Finished.ensures.leaves
+
+pub returns-in-Ok-Idle-clause-leaves : goal.returns-in-Ok-Idle-clause-leaves
+returns-in-Ok-Idle-clause-leaves g c =
+    leaves_more c.args.self.now c.carrying.self c.step.new.self (g.D.Writable.view c.args.device.now).spare (g.D.Writable.view c.carrying.device).spare (g.D.Writable.view c.step.new.device).spare
+    c.carrying.invariant.leaves c.in-Ok-Idle.ensures.leaves
+
+pub returns-in-Ok-Waiting-clause-leaves : goal.returns-in-Ok-Waiting-clause-leaves
+returns-in-Ok-Waiting-clause-leaves g c =
+    leaves_more c.args.self.now c.carrying.self c.step.new.self (g.D.Writable.view c.args.device.now).spare (g.D.Writable.view c.carrying.device).spare (g.D.Writable.view c.step.new.device).spare
+    c.carrying.invariant.leaves c.in-Ok-Waiting.ensures.leaves
+
+pub returns-in-Ok-Reverted-clause-leaves : goal.returns-in-Ok-Reverted-clause-leaves
+returns-in-Ok-Reverted-clause-leaves g c =
+    leaves_more c.args.self.now c.carrying.self c.step.new.self (g.D.Writable.view c.args.device.now).spare (g.D.Writable.view c.carrying.device).spare (g.D.Writable.view c.step.new.device).spare
+    c.carrying.invariant.leaves c.in-Ok-Reverted.ensures.leaves

@@ -1,11 +1,10 @@
 use Rattle.std.proofs.Common.{◌≡◌, true, Option, Some, None, subst, sym, ap, ◌∙◌}
 use Rattle.batch_order.specs.declared.held.Held.{Held}
 use Rattle.batch_order.specs.Kept.{IsManaged}
-use Rattle.batch_order.specs.Managed.{Managed}
 use Rattle.batch_order.specs.Steps.{cancelled, is_unwritten}
 use Rattle.batch_order.proofs.under_way.Carried.{view_of}
 use Rattle.batch_order.proofs.back.Reverted.{IsReverted, dropped_view, managed_reverted}
-use Rattle.batch_order.proofs.under_way.Unwritten.{IsUnwritten, unwritten_is, unwritten_parts}
+use Rattle.batch_order.proofs.under_way.Unwritten.{unwritten_is, unwritten_parts}
 use Rattle.batch_order.proofs.manager.Manager.drop_plan.Goals as goal
 
 pub forget_all-requires : goal.forget_all-requires

@@ -1,4 +1,4 @@
-use Rattle.std.proofs.Common.{◌≡◌, ℕ, Bool, false, List, [], ◌∷◌, slice_get, Option, Some, None, append-nil, sym, ap, ◌∙◌, arith}
+use Rattle.std.proofs.Common.{◌≡◌, ℕ, Bool, false, List, [], ◌∷◌, slice_get, Option, Some, None, sym, ap, ◌∙◌}
 use Rattle.tcam_device.specs.declared.Write.{Write}
 use Rattle.tcam_device.specs.declared.Action.{Action}
 use Rattle.tcam_device.specs.declared.Action.TheVariants.{Written, Drained}
@@ -7,6 +7,7 @@ use Rattle.batch_order.specs.declared.Step.{Step}
 use Rattle.batch_order.specs.Managed.{Managed, HeldCommit}
 use Rattle.batch_order.specs.Steps.{Steps, StepsBack, StepsEither, StepsOn, actions_of, awaits_drain, due_write, is_drain_next, next_of}
 use Rattle.batch_order.proofs.under_way.Left.{none_left}
+use Rattle.batch_order.proofs.Made.{nothing_made}
 use Rattle.batch_order.proofs.manager.Manager.end.Given.{Over}
 use Rattle.batch_order.proofs.manager.Manager.end.Goals as goal
 
@@ -56,8 +57,5 @@ returns-then-not-drains_next-clause-state g c = (ended g c).state
 pub returns-then-not-drains_next-clause-wrote : goal.returns-then-not-drains_next-clause-wrote
 returns-then-not-drains_next-clause-wrote g c = ap writes_in (ended g c).actions
 
-pub returns-then-not-drains_next-clause-events : goal.returns-then-not-drains_next-clause-events
-returns-then-not-drains_next-clause-events g c = rw (ended g c).actions (sym (append-nil _))
-
-pub returns-then-not-drains_next-clause-spare : goal.returns-then-not-drains_next-clause-spare
-returns-then-not-drains_next-clause-spare g c = rw (ended g c).actions (omega arith)
+pub returns-then-not-drains_next-clause-made : goal.returns-then-not-drains_next-clause-made
+returns-then-not-drains_next-clause-made g c = rw (ended g c).actions (nothing_made (g.D.Writable.view c.args.device.now))

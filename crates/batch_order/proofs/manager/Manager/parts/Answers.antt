@@ -1,8 +1,6 @@
-use Rattle.std.proofs.Common.{◌≡◌, ◌≤◌, ◌^◌, ℕ, true, List, Option, Some, length, refl, sym, ap, ap₂, subst, ◌∙◌, arith}
+use Rattle.std.proofs.Common.{◌≡◌, ◌≤◌, ◌^◌, true, List, Option, Some, length, sym, ap, subst, ◌∙◌, arith}
 use Rattle.std.proofs.lemmas.List.{length-map}
 use Rattle.tcam_device.specs.declared.Write.{Write}
-use Rattle.commit_writes.specs.declared.Rewrite.{Rewrite}
-use Rattle.batch_order.specs.declared.planned_writes.PlannedWrite.{PlannedWrite}
 use Rattle.batch_order.specs.ByParts.{paired_number, parts_number}
 use Rattle.batch_order.specs.CarriedOut.{writes_left}
 use Rattle.batch_order.specs.Kept.{IsManaged, held_writes, settled_state}
@@ -13,7 +11,7 @@ use Rattle.batch_order.specs.declared.held.Held.{Held}
 use Rattle.batch_order.proofs.under_way.Carried.{held_size, view_of}
 use Rattle.batch_order.proofs.planning.Numbers.{left_whole, parts_counted}
 use Rattle.batch_order.proofs.back.Restored.{length-restorings}
-use Rattle.batch_order.proofs.under_way.Unwritten.{IsUnwritten, unwritten_is, unwritten_parts}
+use Rattle.batch_order.proofs.under_way.Unwritten.{unwritten_is, unwritten_parts}
 use Rattle.batch_order.proofs.manager.Manager.parts.Goals as goal
 
 pub parts_of_all-requires : goal.parts_of_all-requires

@@ -1,5 +1,6 @@
 use Rattle.std.proofs.Common.{◌≡◌, ◌+◌, ◌-◌, List, drop, length, refl, subst, ◌∙◌}
-use Rattle.tcam_device.specs.State.{State, replay}
+use Rattle.tcam_device.specs.State.{State}
+use Rattle.tcam_device.specs.View.{device_state, journal}
 use Rattle.rule_model.specs.Entry.{RankedPiece}
 use Rattle.commit_writes.specs.PlannedBatch.{erased_slots}
 use Rattle.readback.proofs.ReadSlots.{replay_slots}
@@ -21,20 +22,20 @@ plan_words-requires-clause-dst g c = (fits_kept c.args.translation.now c.args.mo
 
 pub parts_left-requires-clause-encodable : goal.parts_left-requires-clause-encodable
 parts_left-requires-clause-encodable g c =
-    let state : State = replay (g.D.Writable.slot_count c.args.device.now) (g.D.Writable.journal c.args.device.now) in
+    let state : State = device_state (g.D.Writable.view c.args.device.now) in
     let was = c.args.standing.now in
     rewritten_encodable c.args.mode (bits_of c.args.translation.now) c.args.rules.now.rules c.args.batch.now state c.args.shown.now was.live was.arrangement c.requires.stopped c.requires.read
 
 pub plan_rest-requires-clause-encodable : goal.plan_rest-requires-clause-encodable
 plan_rest-requires-clause-encodable g c =
-    let state : State = replay (g.D.Writable.slot_count c.args.device.now) (g.D.Writable.journal c.args.device.now) in
+    let state : State = device_state (g.D.Writable.view c.args.device.now) in
     let was = c.args.standing.now in
     rw c.in_ok-left.ensures.inserted
     (inserted_encodable c.args.mode (bits_of c.args.translation.now) c.args.rules.now.rules c.args.batch.now state c.args.shown.now was.live was.arrangement c.requires.stopped c.requires.read)
 
 pub plan_rest-requires-clause-plannable : goal.plan_rest-requires-clause-plannable
 plan_rest-requires-clause-plannable g c =
-    let state : State = replay (g.D.Writable.slot_count c.args.device.now) (g.D.Writable.journal c.args.device.now) in
+    let state : State = device_state (g.D.Writable.view c.args.device.now) in
     let was = c.args.standing.now in
     let begun = c.plan_words.new.plan in
     let plan : Plan = record { writes = c.plan_twin.new.writes; words = begun.words; most = begun.most; span = begun.span; most_parts = begun.most_parts } in
@@ -45,7 +46,7 @@ plan_rest-requires-clause-plannable g c =
 
 pub plan_rest-requires-clause-few : goal.plan_rest-requires-clause-few
 plan_rest-requires-clause-few g c =
-    let state : State = replay (g.D.Writable.slot_count c.args.device.now) (g.D.Writable.journal c.args.device.now) in
+    let state : State = device_state (g.D.Writable.view c.args.device.now) in
     let was = c.args.standing.now in
     rewrites_few c.args.mode (bits_of c.args.translation.now) c.args.rules.now.rules c.args.batch.now state c.args.shown.now was.live was.arrangement c.requires.stopped c.requires.read
     c.in_ok-left.left.rewrites.items c.in_ok-left.ensures.rewrites
@@ -62,7 +63,7 @@ plan_rest-requires-clause-erased g c =
 
 pub erase_all-requires-clause-distinct : goal.erase_all-requires-clause-distinct
 erase_all-requires-clause-distinct g c =
-    let state : State = replay (g.D.Writable.slot_count c.args.device.now) (g.D.Writable.journal c.args.device.now) in
+    let state : State = device_state (g.D.Writable.view c.args.device.now) in
     let was = c.args.standing.now in
     rw c.deref.ensures.value
     (erased_apart c.args.mode (bits_of c.args.translation.now) c.args.rules.now.rules c.args.batch.now state c.args.shown.now was.live was.arrangement c.requires.stopped c.requires.read
@@ -70,7 +71,7 @@ erase_all-requires-clause-distinct g c =
 
 pub erase_all-requires-clause-standing : goal.erase_all-requires-clause-standing
 erase_all-requires-clause-standing g c =
-    let state : State = replay (g.D.Writable.slot_count c.args.device.now) (g.D.Writable.journal c.args.device.now) in
+    let state : State = device_state (g.D.Writable.view c.args.device.now) in
     let was = c.args.standing.now in
     let erased = c.in_ok-left.left.erased.items in
     rw c.deref.ensures.value
@@ -80,8 +81,8 @@ erase_all-requires-clause-standing g c =
 
 pub returns-clause-planned : goal.returns-clause-planned
 returns-clause-planned g c =
-    let size = g.D.Writable.slot_count c.args.device.now in
-    let state : State = replay (g.D.Writable.slot_count c.args.device.now) (g.D.Writable.journal c.args.device.now) in
+    let size = (g.D.Writable.view c.args.device.now).slots in
+    let state : State = device_state (g.D.Writable.view c.args.device.now) in
     let was = c.args.standing.now in
     let shown = c.args.shown.now in
     let left = c.in_ok-left.left in
@@ -90,7 +91,7 @@ returns-clause-planned g c =
     let arranged : c.erase_all.new.arrangement ≡ erased_slots c.plan_rest.new.arrangement left.erased.items = rw c.deref.ensures.value at c.erase_all.ensures in
     let rest : Rest = record { plan = c.plan_rest.new.plan; bits = c.in_ok-bits.bits; left = left; ids = c.in_ok-ids.ids } in
     all_planned_on c.args.mode (bits_of c.args.translation.now) c.args.rules.now.rules c.args.batch.now state shown was.live was.arrangement c.requires.stopped c.requires.read
-    c.args.placement size (replay_slots size (g.D.Writable.journal c.args.device.now)) c.plan_rest.new.live c.plan_rest.new.arrangement c.erase_all.new.arrangement plan rest
+    c.args.placement size (replay_slots size (journal (g.D.Writable.view c.args.device.now))) c.plan_rest.new.live c.plan_rest.new.arrangement c.erase_all.new.arrangement plan rest
     (first_planned c.args.translation.now c.args.mode c.args.rules.now.rules c.args.batch.now state shown.stage.twin begun plan c.requires.mode c.requires.stopped.can c.requires.tables
     c.in_ok-bits.ensures.writes c.in_ok-bits.ensures.words (c.plan_words.ensures.most ∙ c.new-plan.ensures.most) (c.plan_words.ensures.span ∙ c.new-plan.ensures.span)
     c.in_ok-plan_twin.ensures.writes c.plan_twin.ensures.no_changes refl refl refl)

@@ -1,7 +1,7 @@
 use Rattle.std.proofs.Common.{◌≡◌, ◌≤◌, List, Option, length, sym, subst, arith}
 use Rattle.slot_order.specs.Order.{most_slots}
 use Rattle.rule_model.specs.Entry.{RankedPiece}
-use Rattle.tcam_device.specs.State.{replay}
+use Rattle.tcam_device.specs.View.{device_state}
 use Rattle.batch_order.specs.Standing.{AreEncodable, AreStanding, HasPieceOf, without_twin}
 use Rattle.batch_order.proofs.restarted.ReadAgain.{has_piece_of}
 use Rattle.batch_order.proofs.restarted.Restarts.{IsMade, few_rules, made_now, places_encodable, places_many, read_now, stopped_by, stopped_now}
@@ -56,8 +56,8 @@ reserve-requires g c =
 
 -- what it makes in the end
 made : (g : Over) (c : After-hold-held g)
-    → IsMade c.args.slots c.args.mode c.args.placement c.args.parts.now c.args.batch.now (g.D.Writable.slot_count c.args.device.now)
-    (replay (g.D.Writable.slot_count c.args.device.now) (g.D.Writable.journal c.args.device.now)) (g.D.Writable.spare c.plan_all.new.device)
+    → IsMade c.args.slots c.args.mode c.args.placement c.args.parts.now c.args.batch.now (g.D.Writable.view c.args.device.now).slots
+    (device_state (g.D.Writable.view c.args.device.now)) (g.D.Writable.view c.plan_all.new.device).spare
     c.in_ok-translation.translation c.reserve.new.self c.plan_all.new.standing.live c.in_ok-before.before c.hold-held.result
 made g c =
     let r = c.requires in
@@ -68,7 +68,7 @@ made g c =
     made_now c.args.parts.now r.is_state (stopped_by r.least r.most r.slots r.is_state r.can r.accepted r.found r.shown r.encodable) c.in_ok-translation.translation read.mode read.bits read.tables r.plain
     c.deref.ensures.value stand.standing stand.slots c.are_apart.ensures c.args.placement c.in_ok-before.before c.deref-2.ensures.value c.in_ok-before.ensures c.in_ok-rest.ensures.planned c.reserve.new.self c.reserve.ensures.rules room
     c.gives_bits-new.result c.has_begun.result drain.result.0 drain.result.1 c.gives_bits-new.ensures c.has_begun.ensures drain.ensures.awaits drain.ensures.drained
-    c.in_ok-commands.commands c.in_ok-commands.ensures c.hold-held.result c.hold-held.ensures.held (g.D.Writable.spare c.plan_all.new.device) c.in_ok-rest.ensures.enough
+    c.in_ok-commands.commands c.in_ok-commands.ensures c.hold-held.result c.hold-held.ensures.held (g.D.Writable.view c.plan_all.new.device).spare c.in_ok-rest.ensures.enough
 
 pub returns-clause-managed : goal.returns-clause-managed
 returns-clause-managed g c = (made g c).managed

@@ -1,12 +1,13 @@
 use Rattle.std.proofs.Common.{arith}
 use Rattle.tcam_device.specs.State.{replay, table_of}
+use Rattle.tcam_device.specs.View.{journal}
 use Rattle.commit_writes.proofs.ReadBack.{table_size, next_word, all_words, one_more_short}
 use Rattle.commit_writes.proofs.translation.tables.read_table.Goals as goal
 
 pub loop-port-preserved : goal.loop-port-preserved
 loop-port-preserved g c =
-    let slots = g.D.Writable.slot_count c.args.device.now in
-    let writes = g.D.Writable.journal c.args.device.now in
+    let slots = (g.D.Writable.view c.args.device.now).slots in
+    let writes = journal (g.D.Writable.view c.args.device.now) in
     let table = table_of c.args.field (replay slots writes) in
     let size = table_size c.args.field slots writes in
     let inside = c.loop-port-test.true in
@@ -17,8 +18,8 @@ loop-port-preserved g c =
 
 pub returns-clause-words : goal.returns-clause-words
 returns-clause-words g c =
-    let slots = g.D.Writable.slot_count c.args.device.now in
-    let writes = g.D.Writable.journal c.args.device.now in
+    let slots = (g.D.Writable.view c.args.device.now).slots in
+    let writes = journal (g.D.Writable.view c.args.device.now) in
     let size = table_size c.args.field slots writes in
     let past = c.loop-port-test.false in
     all_words (table_of c.args.field (replay slots writes)) c.loop-port.words.items c.loop-port.port (omega arith) c.loop-port.invariant.0

@@ -1,13 +1,7 @@
-use Rattle.std.proofs.Common.{ap, sym, ◌∙◌, arith}
-use Rattle.tcam_device.specs.Flight.{writes_in}
-use Rattle.tcam_device.proofs.Flights.{writes_in-drained}
+use Rattle.std.proofs.Common.{sym, ◌∙◌, arith}
 use Rattle.memory_tcam.proofs.Kept.{follows-drained}
 use Rattle.memory_tcam.proofs.Shadows.{drain_more}
 use Rattle.memory_tcam.proofs.shadowed.ShadowedWritable.drain.Goals as goal
-
-pub returns-clause-journal : goal.returns-clause-journal
-returns-clause-journal g c =
-    rw (← c.self.view_is) (ap writes_in c.and-self-inside.ensures ∙ writes_in-drained c.self.inside.events.items)
 
 pub invariant_of-self : goal.invariant_of-self
 invariant_of-self g c =

@@ -1,7 +1,5 @@
 use Rattle.std.proofs.Common.{◌<◌, Ok, Err, ap, sym, length, ◌∙◌, arith}
 use Rattle.tcam_device.specs.State.{State}
-use Rattle.tcam_device.specs.Flight.{writes_in}
-use Rattle.tcam_device.proofs.Flights.{writes_in-written}
 use Rattle.tcam_device.proofs.Kept.{slots-apply}
 use Rattle.memory_tcam.proofs.Kept.{follows-written}
 use Rattle.memory_tcam.proofs.Shadows.{put_more}
@@ -12,10 +10,6 @@ make-requires-clause-room g c =
     let some : 0 < c.self.inside.room = rw (← c.self.view_is) at c.requires.room in
     let room = c.self.invariant.1 in
     omega arith
-
-pub returns-clause-written : goal.returns-clause-written
-returns-clause-written g c =
-    rw (← c.self.view_is) (ap writes_in c.and-self-inside.ensures ∙ writes_in-written c.self.inside.events.items c.args.write)
 
 pub invariant_of-self : goal.invariant_of-self
 invariant_of-self g c =

@@ -22,5 +22,5 @@ returns-clause-in_flight g c = words-marked c.perform-result.new.self _ c.perfor
 
 pub returns-clause-in_step : goal.returns-clause-in_step
 returns-clause-in_step g c =
-    in-step-marked (g.D.Writable.slot_count c.args.device.now) c.args.self.now c.perform-result.new.self c.mark.new.self c.perform-result.result
-    (g.D.Writable.events c.args.device.now) (g.D.Writable.events c.perform-result.new.device) (g.D.Writable.flight c.args.device.now) (g.D.Writable.flight c.perform-result.new.device) c.mark.ensures c.perform-result.ensures.in_step
+    in-step-marked (g.D.Writable.view c.args.device.now).slots c.args.self.now c.perform-result.new.self c.mark.new.self c.perform-result.result
+    (g.D.Writable.view c.args.device.now).events (g.D.Writable.view c.perform-result.new.device).events (g.D.Writable.view c.args.device.now).flight (g.D.Writable.view c.perform-result.new.device).flight c.mark.ensures c.perform-result.ensures.in_step

@@ -12,4 +12,4 @@ returns-in-Ok-clause-resumes g c = λ which before unfinished at current.
 
 pub returns-in-Err-clause-resumes : goal.returns-in-Err-clause-resumes
 returns-in-Err-clause-resumes g c = λ which before unfinished at current.
-    opening-breaks (g.D.Writable.slot_count c.args.device.now) before c.args.self.now unfinished c.in-Err.ensures.run c.requires.slots c.requires.told (g.D.Writable.events c.args.device.now) _ _ (c.in-Err.ensures.lines.part which)
+    opening-breaks (g.D.Writable.view c.args.device.now).slots before c.args.self.now unfinished c.in-Err.ensures.run c.requires.slots c.requires.told (g.D.Writable.view c.args.device.now).events _ _ (c.in-Err.ensures.lines.part which)

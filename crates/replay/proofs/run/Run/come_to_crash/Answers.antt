@@ -24,8 +24,8 @@ invariant_of-self g c =
 pub returns-clause-comes : goal.returns-clause-comes
 returns-clause-comes g c = λ which before front unfinished at current.
     comes-first _ c.args.after _ c.args.self.now c.self.view_is c.self.invariant c.requires.slots c.requires.held c.requires.crashes c.requires.more
-    before front unfinished (g.D.Writable.events c.args.device.now) (g.D.Writable.flight c.args.device.now) at current
-    c.make_up_to.result c.make_up_to.new.manager c.make_up_to.new.count _ _ _ (g.D.Writable.flight c.make_up_to.new.device) (c.make_up_to.ensures.makes which) _ c.make_up_to.ensures.leaves.slot_count c.make_up_to.ensures.seen
+    before front unfinished (g.D.Writable.view c.args.device.now).events (g.D.Writable.view c.args.device.now).flight at current
+    c.make_up_to.result c.make_up_to.new.manager c.make_up_to.new.count _ _ _ (g.D.Writable.view c.make_up_to.new.device).flight (c.make_up_to.ensures.makes which) _ c.make_up_to.ensures.leaves.slots c.make_up_to.ensures.seen
 
 pub returns-clause-at_crash : goal.returns-clause-at_crash
 returns-clause-at_crash g c =
@@ -35,7 +35,7 @@ returns-clause-at_crash g c =
 pub returns-clause-stands : goal.returns-clause-stands
 returns-clause-stands g c =
     stands-first _ c.args.after _ c.args.self.now c.self.view_is c.self.invariant c.requires.slots c.requires.held c.requires.crashes c.requires.more
-    _ c.make_up_to.result c.make_up_to.new.manager c.make_up_to.new.count _ _ _ _ (c.make_up_to.ensures.makes true) _ c.make_up_to.ensures.leaves.slot_count
+    _ c.make_up_to.result c.make_up_to.new.manager c.make_up_to.new.count _ _ _ _ (c.make_up_to.ensures.makes true) _ c.make_up_to.ensures.leaves.slots
 
 pub returns-clause-kind : goal.returns-clause-kind
 returns-clause-kind g c =
@@ -50,10 +50,10 @@ returns-clause-setting g c =
 pub returns-clause-in_flight : goal.returns-clause-in_flight
 returns-clause-in_flight g c =
     left-first _ c.args.after _ c.args.self.now c.self.view_is c.self.invariant c.requires.slots c.requires.held c.requires.crashes c.requires.more
-    _ c.make_up_to.result c.make_up_to.new.manager c.make_up_to.new.count _ _ _ _ (c.make_up_to.ensures.makes true) (g.D.Writable.flight c.make_up_to.new.device) c.make_up_to.ensures.in_flight
+    _ c.make_up_to.result c.make_up_to.new.manager c.make_up_to.new.count _ _ _ _ (c.make_up_to.ensures.makes true) (g.D.Writable.view c.make_up_to.new.device).flight c.make_up_to.ensures.in_flight
 
 pub returns-clause-in_step : goal.returns-clause-in_step
 returns-clause-in_step g c = λ not_sink.
-    let width = c.make_up_to.ensures.leaves.slot_count in
-    in-step-cut (g.D.Writable.slot_count c.args.device.now) _ c.args.self.now c.self.invariant c.self.view_is c.make_up_to.new.manager c.make_up_to.new.count (g.D.Writable.events c.args.device.now) (g.D.Writable.events c.make_up_to.new.device)
-    (g.D.Writable.flight c.args.device.now) (g.D.Writable.flight c.make_up_to.new.device) (rw width at (c.make_up_to.ensures.seen not_sink))
+    let width = c.make_up_to.ensures.leaves.slots in
+    in-step-cut (g.D.Writable.view c.args.device.now).slots _ c.args.self.now c.self.invariant c.self.view_is c.make_up_to.new.manager c.make_up_to.new.count (g.D.Writable.view c.args.device.now).events (g.D.Writable.view c.make_up_to.new.device).events
+    (g.D.Writable.view c.args.device.now).flight (g.D.Writable.view c.make_up_to.new.device).flight (rw width at (c.make_up_to.ensures.seen not_sink))

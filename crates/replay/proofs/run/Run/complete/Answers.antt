@@ -19,8 +19,8 @@ use Rattle.replay.proofs.run.Run.complete.Goals.{in-Ok-write_ended, in-Err-write
 
 pub make_writes-requires-clause-in_flight : goal.make_writes-requires-clause-in_flight
 make_writes-requires-clause-in_flight g c =
-    subst (λ (run : Running). AreOf (probes_told run.json run.probes) run.waiting (g.D.Writable.flight c.args.device.now)) (sym c.self.view_is)
-    (are-of-left c.args.self.now (g.D.Writable.flight c.args.device.now) c.requires.held c.requires.in_flight)
+    subst (λ (run : Running). AreOf (probes_told run.json run.probes) run.waiting (g.D.Writable.view c.args.device.now).flight) (sym c.self.view_is)
+    (are-of-left c.args.self.now (g.D.Writable.view c.args.device.now).flight c.requires.held c.requires.in_flight)
 
 pub make_writes-requires-clause-waiting : goal.make_writes-requires-clause-waiting
 make_writes-requires-clause-waiting g c =
@@ -41,18 +41,18 @@ invariant_of-self g c =
 
 pub returns-in-Err-clause-resumes : goal.returns-in-Err-clause-resumes
 returns-in-Err-clause-resumes g c = λ which before front unfinished at current.
-    let slots = g.D.Writable.slot_count c.args.device.now in
+    let slots = (g.D.Writable.view c.args.device.now).slots in
     let inside = subst (λ (run : Running). run.manager.slots ≤ slots) (sym c.self.view_is) c.requires.slots in
     let rest = rest-of slots before front _ (subst (IsUnfinished slots before front) (sym c.self.view_is) unfinished) c.self.invariant inside (subst HasNoCrash (sym c.self.view_is) c.requires.no_crash) in
-    let seen = is-seen slots before front _ c.args.self.now c.self.view_is c.requires.slots (g.D.Writable.events c.args.device.now) (g.D.Writable.events c.args.device.now) rest at _ current in
-    resumes-cut slots before front _ c.args.self.now c.self.view_is c.requires.slots (g.D.Writable.events c.args.device.now) (g.D.Writable.events c.make_writes.new.device) rest at _ current c.in-Err.fault c.make_writes.new.manager c.make_writes.new.count (g.D.Writable.flight c.make_writes.new.device) _ _ (c.in-Err.ensures.makes which)
+    let seen = is-seen slots before front _ c.args.self.now c.self.view_is c.requires.slots (g.D.Writable.view c.args.device.now).events (g.D.Writable.view c.args.device.now).events rest at _ current in
+    resumes-cut slots before front _ c.args.self.now c.self.view_is c.requires.slots (g.D.Writable.view c.args.device.now).events (g.D.Writable.view c.make_writes.new.device).events rest at _ current c.in-Err.fault c.make_writes.new.manager c.make_writes.new.count (g.D.Writable.view c.make_writes.new.device).flight _ _ (c.in-Err.ensures.makes which)
     (λ is. (c.in-Err.ensures.seen (λ e. absurd (cc)) seen).current)
 
 pub returns-in-Err-clause-in_flight : goal.returns-in-Err-clause-in_flight
 returns-in-Err-clause-in_flight g c =
     let kind = cut-some c.in-Err.fault _ _ _ _ _ _ _ _ _ _ _ _ (c.in-Err.ensures.makes true) in
     let held : IsSome c.make_writes.new.manager.held = subst (λ held. IsSome held) (sym (some-held _ _ _ _ kind.0)) refl in
-    words-cut_run _ c.make_writes.new.manager c.make_writes.new.count c.in-Err.fault (g.D.Writable.flight c.args.device.now) (g.D.Writable.flight c.make_writes.new.device) c.self.invariant kind.2 held (λ is. c.in-Err.ensures.in_flight (λ e. absurd (cc)))
+    words-cut_run _ c.make_writes.new.manager c.make_writes.new.count c.in-Err.fault (g.D.Writable.view c.args.device.now).flight (g.D.Writable.view c.make_writes.new.device).flight c.self.invariant kind.2 held (λ is. c.in-Err.ensures.in_flight (λ e. absurd (cc)))
 
 pub returns-in-Err-clause-kind : goal.returns-in-Err-clause-kind
 returns-in-Err-clause-kind g c = (cut-some c.in-Err.fault _ _ _ _ _ _ _ _ _ _ _ _ (c.in-Err.ensures.makes true)).2
@@ -100,38 +100,38 @@ returns-in-Err-search_all-clause-setting g c =
 pub returns-in-Err-search_all-clause-resumes : goal.returns-in-Err-search_all-clause-resumes
 returns-in-Err-search_all-clause-resumes g c = λ which before front unfinished at current.
     let made = c.in-Ok.ensures in
-    let width = made.leaves.slot_count in
+    let width = made.leaves.slots in
     let all = made.makes which in
     let closed = c.self-2.view_is ∙ c.count_commit.ensures in
-    let slots = g.D.Writable.slot_count c.args.device.now in
+    let slots = (g.D.Writable.view c.args.device.now).slots in
     let inside = subst (λ (run : Running). run.manager.slots ≤ slots) (sym c.self.view_is) c.requires.slots in
     let rest = rest-of slots before front _ (subst (IsUnfinished slots before front) (sym c.self.view_is) unfinished) c.self.invariant inside (subst HasNoCrash (sym c.self.view_is) c.requires.no_crash) in
-    let seen = is-seen slots before front _ c.args.self.now c.self.view_is c.requires.slots (g.D.Writable.events c.args.device.now) (g.D.Writable.events c.args.device.now) rest at _ current in
+    let seen = is-seen slots before front _ c.args.self.now c.self.view_is c.requires.slots (g.D.Writable.view c.args.device.now).events (g.D.Writable.view c.args.device.now).events rest at _ current in
     let now = rw width at (made.seen (λ e. cc) seen) in
-    let cuts = as-last slots before front _ c.args.self.now c.self.view_is c.requires.slots (g.D.Writable.events c.args.device.now) (g.D.Writable.events c.make_writes.new.device) rest at _ current c.in-Ok.ended c.make_writes.new.manager c.make_writes.new.count _ _ all _ closed
-    (λ lines. CutsLines lines (counted which (g.K.Sink.taken c.make_writes.new.sink) (g.K.Sink.accepted c.make_writes.new.sink)) (counted which (g.K.Sink.taken c.search_all.new.sink) (g.K.Sink.accepted c.search_all.new.sink))) _ _ (g.met.D.Writable.agrees c.make_writes.new.device) made.serves now (made.in_flight (λ e. cc)) (rw width at (c.in-Err-search_all.ensures.lines.part which)) in
-    rw c.in-Err-search_all.ensures.events (resumes-searching slots before front _ c.args.self.now c.self.view_is c.requires.slots (g.D.Writable.events c.args.device.now) (g.D.Writable.events c.make_writes.new.device) rest at _ current c.in-Ok.ended c.make_writes.new.manager c.make_writes.new.count _ _ all _ closed _ (g.D.Writable.flight c.search_all.new.device) cuts)
+    let cuts = as-last slots before front _ c.args.self.now c.self.view_is c.requires.slots (g.D.Writable.view c.args.device.now).events (g.D.Writable.view c.make_writes.new.device).events rest at _ current c.in-Ok.ended c.make_writes.new.manager c.make_writes.new.count _ _ all _ closed
+    (λ lines. CutsLines lines (counted which (g.K.Sink.taken c.make_writes.new.sink) (g.K.Sink.accepted c.make_writes.new.sink)) (counted which (g.K.Sink.taken c.search_all.new.sink) (g.K.Sink.accepted c.search_all.new.sink))) _ _ refl made.serves now (made.in_flight (λ e. cc)) (rw width at (c.in-Err-search_all.ensures.lines.part which)) in
+    rw c.in-Err-search_all.ensures.others.events (resumes-searching slots before front _ c.args.self.now c.self.view_is c.requires.slots (g.D.Writable.view c.args.device.now).events (g.D.Writable.view c.make_writes.new.device).events rest at _ current c.in-Ok.ended c.make_writes.new.manager c.make_writes.new.count _ _ all _ closed _ (g.D.Writable.view c.search_all.new.device).flight cuts)
 
 -- or all of them are told, and then its own line, or a part of that
 pub returns-clause-resumes : goal.returns-clause-resumes
 returns-clause-resumes g c = λ which before front unfinished at current.
     let made = c.in-Ok.ensures in
-    let width = made.leaves.slot_count in
+    let width = made.leaves.slots in
     let all = made.makes which in
     let closed = c.self-2.view_is ∙ c.count_commit.ensures in
-    let slots = g.D.Writable.slot_count c.args.device.now in
+    let slots = (g.D.Writable.view c.args.device.now).slots in
     let inside = subst (λ (run : Running). run.manager.slots ≤ slots) (sym c.self.view_is) c.requires.slots in
     let rest = rest-of slots before front _ (subst (IsUnfinished slots before front) (sym c.self.view_is) unfinished) c.self.invariant inside (subst HasNoCrash (sym c.self.view_is) c.requires.no_crash) in
-    let seen = is-seen slots before front _ c.args.self.now c.self.view_is c.requires.slots (g.D.Writable.events c.args.device.now) (g.D.Writable.events c.args.device.now) rest at _ current in
+    let seen = is-seen slots before front _ c.args.self.now c.self.view_is c.requires.slots (g.D.Writable.view c.args.device.now).events (g.D.Writable.view c.args.device.now).events rest at _ current in
     let now = rw width at (made.seen (λ e. cc) seen) in
-    let last = as-last slots before front _ c.args.self.now c.self.view_is c.requires.slots (g.D.Writable.events c.args.device.now) (g.D.Writable.events c.make_writes.new.device) rest at _ current c.in-Ok.ended c.make_writes.new.manager c.make_writes.new.count _ _ all _ closed
-    (λ lines. Appends (counted which (g.K.Sink.taken c.make_writes.new.sink) (g.K.Sink.accepted c.make_writes.new.sink)) (counted which (g.K.Sink.taken c.search_all.new.sink) (g.K.Sink.accepted c.search_all.new.sink)) (printed lines)) _ _ (g.met.D.Writable.agrees c.make_writes.new.device) made.serves now (made.in_flight (λ e. cc)) (rw width at (c.in-Ok-search_all.ensures.lines.whole which)) in
+    let last = as-last slots before front _ c.args.self.now c.self.view_is c.requires.slots (g.D.Writable.view c.args.device.now).events (g.D.Writable.view c.make_writes.new.device).events rest at _ current c.in-Ok.ended c.make_writes.new.manager c.make_writes.new.count _ _ all _ closed
+    (λ lines. Appends (counted which (g.K.Sink.taken c.make_writes.new.sink) (g.K.Sink.accepted c.make_writes.new.sink)) (counted which (g.K.Sink.taken c.search_all.new.sink) (g.K.Sink.accepted c.search_all.new.sink)) (printed lines)) _ _ refl made.serves now (made.in_flight (λ e. cc)) (rw width at (c.in-Ok-search_all.ensures.lines.whole which)) in
     elim c.match-write_ended.branch [
-      | in-Ok-write_ended w ↦ rw (w.result-is, c.in-Ok-search_all.ensures.events)
-          (resumes-all slots before front _ c.args.self.now c.self.view_is c.requires.slots (g.D.Writable.events c.args.device.now) (g.D.Writable.events c.make_writes.new.device) rest at _ current c.in-Ok.ended c.make_writes.new.manager c.make_writes.new.count _ _ all _ closed _ last _ (g.D.Writable.flight c.search_all.new.device)
+      | in-Ok-write_ended w ↦ rw (w.result-is, c.in-Ok-search_all.ensures.others.events)
+          (resumes-all slots before front _ c.args.self.now c.self.view_is c.requires.slots (g.D.Writable.view c.args.device.now).events (g.D.Writable.view c.make_writes.new.device).events rest at _ current c.in-Ok.ended c.make_writes.new.manager c.make_writes.new.count _ _ all _ closed _ last _ (g.D.Writable.view c.search_all.new.device).flight
           (rw c.is_json.ensures at (w.in-Ok-write_ended.ensures.whole which)))
-      | in-Err-write_ended w ↦ rw (w.result-is, c.in-Ok-search_all.ensures.events)
-          (resumes-last slots before front _ c.args.self.now c.self.view_is c.requires.slots (g.D.Writable.events c.args.device.now) (g.D.Writable.events c.make_writes.new.device) rest at _ current c.in-Ok.ended c.make_writes.new.manager c.make_writes.new.count _ _ all _ closed _ last _ (g.D.Writable.flight c.search_all.new.device)
+      | in-Err-write_ended w ↦ rw (w.result-is, c.in-Ok-search_all.ensures.others.events)
+          (resumes-last slots before front _ c.args.self.now c.self.view_is c.requires.slots (g.D.Writable.view c.args.device.now).events (g.D.Writable.view c.make_writes.new.device).events rest at _ current c.in-Ok.ended c.make_writes.new.manager c.make_writes.new.count _ _ all _ closed _ last _ (g.D.Writable.view c.search_all.new.device).flight
           (rw c.is_json.ensures at (w.in-Err-write_ended.ensures.part which)))
     ]
 
@@ -150,9 +150,9 @@ returns-clause-setting g c =
 -- where the sink didn't fail the device stays the manager's
 pub returns-in-Err-clause-in_step : goal.returns-in-Err-clause-in_step
 returns-in-Err-clause-in_step g c = λ not_sink.
-    in-step-cut (g.D.Writable.slot_count c.args.device.now) _ c.args.self.now c.self.invariant c.self.view_is c.make_writes.new.manager c.make_writes.new.count
-    (g.D.Writable.events c.args.device.now) (g.D.Writable.events c.make_writes.new.device) (g.D.Writable.flight c.args.device.now) (g.D.Writable.flight c.make_writes.new.device)
-    (λ seen. rw c.in-Err.ensures.leaves.slot_count at (c.in-Err.ensures.seen (λ e. not_sink (let same : c.in-Err.fault ≡ fault.Sink = cc in ap Err same)) seen))
+    in-step-cut (g.D.Writable.view c.args.device.now).slots _ c.args.self.now c.self.invariant c.self.view_is c.make_writes.new.manager c.make_writes.new.count
+    (g.D.Writable.view c.args.device.now).events (g.D.Writable.view c.make_writes.new.device).events (g.D.Writable.view c.args.device.now).flight (g.D.Writable.view c.make_writes.new.device).flight
+    (λ seen. rw c.in-Err.ensures.leaves.slots at (c.in-Err.ensures.seen (λ e. not_sink (let same : c.in-Err.fault ≡ fault.Sink = cc in ap Err same)) seen))
 
 pub returns-in-Err-search_all-clause-in_step : goal.returns-in-Err-search_all-clause-in_step
 returns-in-Err-search_all-clause-in_step g c = λ not_sink. absurd (not_sink refl)
@@ -160,7 +160,7 @@ returns-in-Err-search_all-clause-in_step g c = λ not_sink. absurd (not_sink ref
 pub returns-clause-in_step : goal.returns-clause-in_step
 returns-clause-in_step g c = λ not_sink.
     let made = c.in-Ok.ensures in
-    in-step-done (g.D.Writable.slot_count c.args.device.now) _ c.args.self.now c.self.invariant c.self.view_is c.make_writes.new.manager _ c.make_writes.new.count.told (c.self-2.view_is ∙ c.count_commit.ensures)
-    (g.D.Writable.events c.args.device.now) (g.D.Writable.events c.make_writes.new.device) (g.D.Writable.events c.search_all.new.device)
-    (g.D.Writable.flight c.args.device.now) (g.D.Writable.flight c.make_writes.new.device) (g.D.Writable.flight c.search_all.new.device)
-    (λ seen. rw made.leaves.slot_count at (made.seen (λ e. cc) seen)) c.in-Ok-search_all.ensures.events c.in-Ok-search_all.ensures.flight
+    in-step-done (g.D.Writable.view c.args.device.now).slots _ c.args.self.now c.self.invariant c.self.view_is c.make_writes.new.manager _ c.make_writes.new.count.told (c.self-2.view_is ∙ c.count_commit.ensures)
+    (g.D.Writable.view c.args.device.now).events (g.D.Writable.view c.make_writes.new.device).events (g.D.Writable.view c.search_all.new.device).events
+    (g.D.Writable.view c.args.device.now).flight (g.D.Writable.view c.make_writes.new.device).flight (g.D.Writable.view c.search_all.new.device).flight
+    (λ seen. rw made.leaves.slots at (made.seen (λ e. cc) seen)) c.in-Ok-search_all.ensures.others.events c.in-Ok-search_all.ensures.flight

@@ -8,36 +8,36 @@ use Rattle.replay.proofs.run.Run.perform.Goals as goal
 
 pub returns-in-Command-clause-acts : goal.returns-in-Command-clause-acts
 returns-in-Command-clause-acts g c = λ which.
-    push-acts c.push.result _ c.args.self.now c.push.new.self c.args.act.now c.in-Command.command (g.D.Writable.events c.args.device.now) _ c.in-Command.is c.push.ensures.pushed c.push.ensures.unchanged c.push.ensures.kind
+    push-acts c.push.result _ c.args.self.now c.push.new.self c.args.act.now c.in-Command.command (g.D.Writable.view c.args.device.now).events _ c.in-Command.is c.push.ensures.pushed c.push.ensures.unchanged c.push.ensures.kind
 
 pub returns-in-Probe-clause-acts : goal.returns-in-Probe-clause-acts
 returns-in-Probe-clause-acts g c = λ which.
-    probe-acts c.probe.result _ c.args.self.now c.probe.new.self c.args.act.now c.in-Probe.key (g.D.Writable.events c.args.device.now) _ c.in-Probe.is c.probe.ensures.probed c.probe.ensures.unchanged c.probe.ensures.kind
+    probe-acts c.probe.result _ c.args.self.now c.probe.new.self c.args.act.now c.in-Probe.key (g.D.Writable.view c.args.device.now).events _ c.in-Probe.is c.probe.ensures.probed c.probe.ensures.unchanged c.probe.ensures.kind
 
 pub returns-in-Command-clause-leaves : goal.returns-in-Command-clause-leaves
 returns-in-Command-clause-leaves g c =
     let never = no-fault c.push.result c.push.ensures.kind in
-    leaves-line _ _ _ _ _ _ _ _ _ _ _ (λ some. some) refl refl refl (uncounted _ _ _ never.0 refl) never.1
+    leaves-line _ _ _ _ _ _ _ _ (λ some. some) refl refl refl (uncounted _ _ _ never.0 refl) never.1
 
 pub returns-in-Packet-clause-leaves : goal.returns-in-Packet-clause-leaves
 returns-in-Packet-clause-leaves g c =
-    leaves-line _ _ _ _ _ _ _ _ _ _ _ c.packet.ensures.told refl refl refl (line-counted c.packet.result _ _ c.packet.ensures.kind c.packet.ensures.cause) (no-write c.packet.result c.packet.ensures.kind)
+    leaves-line _ _ _ _ _ _ _ _ c.packet.ensures.told refl refl refl (line-counted c.packet.result _ _ c.packet.ensures.kind c.packet.ensures.cause) (no-write c.packet.result c.packet.ensures.kind)
 
 pub returns-in-Command-clause-in_flight : goal.returns-in-Command-clause-in_flight
-returns-in-Command-clause-in_flight g c = words-kept c.push.new.self c.push.result (g.D.Writable.flight c.args.device.now) (g.D.Writable.flight c.args.device.now) refl c.requires.none_in_flight (no-fault c.push.result c.push.ensures.kind).1
+returns-in-Command-clause-in_flight g c = words-kept c.push.new.self c.push.result (g.D.Writable.view c.args.device.now).flight (g.D.Writable.view c.args.device.now).flight refl c.requires.none_in_flight (no-fault c.push.result c.push.ensures.kind).1
 
 pub returns-in-Packet-clause-in_flight : goal.returns-in-Packet-clause-in_flight
-returns-in-Packet-clause-in_flight g c = words-kept c.args.self.now c.packet.result (g.D.Writable.flight c.args.device.now) (g.D.Writable.flight c.args.device.now) refl c.requires.none_in_flight (no-write c.packet.result c.packet.ensures.kind)
+returns-in-Packet-clause-in_flight g c = words-kept c.args.self.now c.packet.result (g.D.Writable.view c.args.device.now).flight (g.D.Writable.view c.args.device.now).flight refl c.requires.none_in_flight (no-write c.packet.result c.packet.ensures.kind)
 
 pub returns-in-Command-clause-in_step : goal.returns-in-Command-clause-in_step
 returns-in-Command-clause-in_step g c = λ not_sink.
-    in-step-kept (g.D.Writable.slot_count c.args.device.now) c.args.self.now c.push.new.self (g.D.Writable.events c.args.device.now) (g.D.Writable.flight c.args.device.now)
+    in-step-kept (g.D.Writable.view c.args.device.now).slots c.args.self.now c.push.new.self (g.D.Writable.view c.args.device.now).events (g.D.Writable.view c.args.device.now).flight
     (kept-manager c.push.result c.args.self.now (record c.args.self.now { pending = c.args.self.now.pending ++ c.in-Command.command ∷ [] }) c.push.new.self refl c.push.ensures.pushed c.push.ensures.unchanged)
 
 pub returns-in-Probe-clause-in_step : goal.returns-in-Probe-clause-in_step
 returns-in-Probe-clause-in_step g c = λ not_sink.
-    in-step-kept (g.D.Writable.slot_count c.args.device.now) c.args.self.now c.probe.new.self (g.D.Writable.events c.args.device.now) (g.D.Writable.flight c.args.device.now)
+    in-step-kept (g.D.Writable.view c.args.device.now).slots c.args.self.now c.probe.new.self (g.D.Writable.view c.args.device.now).events (g.D.Writable.view c.args.device.now).flight
     (kept-manager c.probe.result c.args.self.now (record c.args.self.now { probes = c.args.self.now.probes ++ c.in-Probe.key ∷ [] }) c.probe.new.self refl c.probe.ensures.probed c.probe.ensures.unchanged)
 
 pub returns-in-Packet-clause-in_step : goal.returns-in-Packet-clause-in_step
-returns-in-Packet-clause-in_step g c = λ not_sink. in-step-kept (g.D.Writable.slot_count c.args.device.now) c.args.self.now c.args.self.now (g.D.Writable.events c.args.device.now) (g.D.Writable.flight c.args.device.now) refl
+returns-in-Packet-clause-in_step g c = λ not_sink. in-step-kept (g.D.Writable.view c.args.device.now).slots c.args.self.now c.args.self.now (g.D.Writable.view c.args.device.now).events (g.D.Writable.view c.args.device.now).flight refl

@@ -2,6 +2,7 @@
 use Rattle.std.proofs.Common.{rules, ◌<◌, ◌≤◌, ◌∙◌, arith}
 use Rattle.std.proofs.KnownBytes.{Appends-nil}
 use Rattle.replay.proofs.flight.Flushing.{cuts-more, flushing-empty, flushing-enough, flushing-more, flushing-none, flushing-whole, told-more}
+use Rattle.replay.proofs.flight.Views.{same-none, same-then}
 use Rattle.replay.proofs.watch.Watch.search_all.Goals as goal
 
 pub loop-place-init : goal.loop-place-init
@@ -9,11 +10,7 @@ loop-place-init g c = record {
   flushing = flushing-none _ _ _ _ _ c.requires.words;
   told = λ which. Appends-nil _;
   within = omega arith;
-  journal = search rules;
-  events = search rules;
-  spare = search rules;
-  slots = search rules;
-  failures = search rules;
+  others = same-none _;
   stays = λ some. some;
   faults = search rules;
 }
@@ -27,7 +24,7 @@ pub returns-in_err-search-clause-lines : goal.returns-in_err-search-clause-lines
 returns-in_err-search-clause-lines g c =
     let i = c.loop-place.invariant in
     let within : c.loop-place.place < c.args.count.now.waiting = search rules in
-    let lines = rw (i.slots, i.journal) at c.in_err-search.ensures.lines in
+    let lines = rw (i.others.slots, i.others.events) at c.in_err-search.ensures.lines in
     record {
       whole = λ which. search rules;
       part = λ which. cuts-more _ _ _ _ _ c.loop-place.place _ i.flushing within c.from_residual.result _ _ _ (i.told which) (lines.part which);
@@ -40,16 +37,12 @@ loop-place-preserved g c =
     let i = c.loop-place.invariant in
     let s = c.in_ok-search.ensures in
     let within : c.loop-place.place < c.args.count.now.waiting = search rules in
-    let lines = rw (i.slots, i.journal) at s.lines in
+    let lines = rw (i.others.slots, i.others.events) at s.lines in
     record {
       flushing = flushing-more _ _ _ _ _ c.loop-place.place _ i.flushing within _ s.flight;
       told = λ which. told-more _ _ _ _ _ c.loop-place.place _ i.flushing within _ _ _ (i.told which) (lines.whole which);
       within = omega (arith, within);
-      journal = s.journal ∙ i.journal;
-      events = s.events ∙ i.events;
-      spare = s.spare ∙ i.spare;
-      slots = s.slots ∙ i.slots;
-      failures = s.faults ∙ i.failures;
+      others = same-then _ _ _ i.others s.others;
       stays = λ some. lines.told (i.stays some);
       faults = lines.cause.stayed ∙ i.faults;
     }

@@ -3,7 +3,7 @@ use Rattle.std.proofs.Common.{rules, ◌≡◌, ◌≤◌, length, subst, sym, a
 use Rattle.std.specs.Io.KnownBytes.{Appends}
 use Rattle.std.proofs.KnownBytes.{Appends-trans}
 use Rattle.script_lines.specs.Given.{counted}
-use Rattle.tcam_device.specs.State.{replay}
+use Rattle.tcam_device.specs.View.{device_state}
 use Rattle.replay.specs.Effects.{printed, probes_told, write_told}
 use Rattle.replay.specs.InFlight.{found_after}
 use Rattle.replay.specs.Outside.{CutsLines}
@@ -24,8 +24,8 @@ translate-requires g c =
 pub returns-in_err-search-clause-lines : goal.returns-in_err-search-clause-lines
 returns-in_err-search-clause-lines g c =
     let watch = c.args.self.now in
-    let state = replay (g.D.Writable.slot_count c.args.device.now) (g.D.Writable.journal c.args.device.now) in
-    let flight = g.D.Writable.flight c.args.device.now in
+    let state = device_state (g.D.Writable.view c.args.device.now) in
+    let flight = (g.D.Writable.view c.args.device.now).flight in
     let t = c.translate.ensures in
     let first = c.in_ok-tell_write.ensures in
     let lines = c.in_err-search.ensures.lines in
@@ -36,7 +36,7 @@ returns-in_err-search-clause-lines g c =
           (found_after watch.family (probes_told watch.json watch.probes) watch.depth c.args.number c.args.waiting state flight)
           (counted which (g.K.Sink.taken c.args.sink.now) (g.K.Sink.accepted c.args.sink.now)) (counted which (g.K.Sink.taken c.tell_write.new.sink) (g.K.Sink.accepted c.tell_write.new.sink)) (counted which (g.K.Sink.taken c.search.new.sink) (g.K.Sink.accepted c.search.new.sink)) (first.whole which)
           (subst (λ more. CutsLines more (counted which (g.K.Sink.taken c.tell_write.new.sink) (g.K.Sink.accepted c.tell_write.new.sink)) (counted which (g.K.Sink.taken c.search.new.sink) (g.K.Sink.accepted c.search.new.sink)))
-          (sym (found-full watch.family (probes_told watch.json watch.probes) watch.depth c.args.number c.args.waiting state flight full)) (rw (t.slots, t.journal, t.flight) at (lines.part which)));
+          (sym (found-full watch.family (probes_told watch.json watch.probes) watch.depth c.args.number c.args.waiting state flight full)) (rw (t.others.slots, t.others.events, t.flight) at (lines.part which)));
       told = λ some. lines.told (first.told some);
       cause = search rules;
     }
@@ -44,8 +44,8 @@ returns-in_err-search-clause-lines g c =
 pub returns-in_ok-search-clause-lines : goal.returns-in_ok-search-clause-lines
 returns-in_ok-search-clause-lines g c =
     let watch = c.args.self.now in
-    let state = replay (g.D.Writable.slot_count c.args.device.now) (g.D.Writable.journal c.args.device.now) in
-    let flight = g.D.Writable.flight c.args.device.now in
+    let state = device_state (g.D.Writable.view c.args.device.now) in
+    let flight = (g.D.Writable.view c.args.device.now).flight in
     let t = c.translate.ensures in
     let first = c.in_ok-tell_write.ensures in
     let lines = c.in_ok-search.ensures.lines in
@@ -60,7 +60,7 @@ returns-in_ok-search-clause-lines g c =
           subst (Appends old new) (sym (printed-append here found))
           (Appends-trans old mid new (printed here) (printed found) (first.whole which)
           (subst (λ more. Appends mid new (printed more))
-          (sym (found-full watch.family (probes_told watch.json watch.probes) watch.depth c.args.number c.args.waiting state flight full)) (rw (t.slots, t.journal, t.flight) at (lines.whole which))));
+          (sym (found-full watch.family (probes_told watch.json watch.probes) watch.depth c.args.number c.args.waiting state flight full)) (rw (t.others.slots, t.others.events, t.flight) at (lines.whole which))));
       part = λ which. tt;
       told = λ some. lines.told (first.told some);
       cause = search rules;

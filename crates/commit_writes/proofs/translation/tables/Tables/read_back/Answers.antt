@@ -1,5 +1,6 @@
 use Rattle.std.proofs.Common.{◌≡◌, ℕ, List, [], ap, ◌∙◌, refl, length}
-use Rattle.tcam_device.specs.State.{State, replay}
+use Rattle.tcam_device.specs.State.{State}
+use Rattle.tcam_device.specs.View.{device_state, journal}
 use Rattle.rule_model.specs.declared.Field.TheVariants.{Src, Dst}
 use Rattle.commit_writes.proofs.ReadBack.{table_size}
 use Rattle.commit_writes.proofs.translation.tables.Tables.read_back.Goals as goal
@@ -10,12 +11,12 @@ tables_are state src dst s d =
     ∙ ap (λ (l : List ℕ). let made : State = record { slots = []; src = state.src; dst = l } in made) d
 
 pub returns : goal.returns
-returns g c = tables_are (replay (g.D.Writable.slot_count c.args.device.now) (g.D.Writable.journal c.args.device.now)) c.in_ok-src.src.items c.in_ok-dst.dst.items c.in_ok-src.ensures.words c.in_ok-dst.ensures.words
+returns g c = tables_are (device_state (g.D.Writable.view c.args.device.now)) c.in_ok-src.src.items c.in_ok-dst.dst.items c.in_ok-src.ensures.words c.in_ok-dst.ensures.words
 
 pub invariant_of-result : goal.invariant_of-result
 invariant_of-result g c =
-    let slots = g.D.Writable.slot_count c.args.device.now in
-    let writes = g.D.Writable.journal c.args.device.now in
+    let slots = (g.D.Writable.view c.args.device.now).slots in
+    let writes = journal (g.D.Writable.view c.args.device.now) in
     record {
       size = refl;
       src_size = ap length c.in_ok-src.ensures.words ∙ table_size Src slots writes;
