@@ -1,228 +1,182 @@
-//! A manager and its device.
-ghost use Rattle.std.specs.Prelude.{◌≡◌, ◌≤◌, IfErr, IsTrue};
-ghost use Rattle.tcam_device.specs.State.{blank_table, replay, table_of};
-ghost use Rattle.batch_order.specs.Managed.{HasBlankTables};
+//! A manager and its device, and what commits them.
+ghost use Rattle.std.specs.Prelude.{◌≡◌, ◌-◌, ◌≤◌, ◌↔◌, List, IfErr, IfOk, IfSome, IsSome, IsTrue, OnErr, OnOk, length};
+ghost use Rattle.call_history.specs.Cause.{HasCause};
+ghost use Rattle.rule_store.specs.declared.Command.{Command};
+ghost use Rattle.rule_store.specs.Batch.{set_after};
+ghost use Rattle.tcam_device.specs.State.{State, apply, blank};
+ghost use Rattle.tcam_device.specs.View.{HasMade, IsSameButSpare, IsUntouched, device_state, journal};
+ghost use Rattle.commit_writes.specs.declared.Done.{Done};
+ghost use Rattle.batch_order.specs.Managed.{Holds, Judges, Managed, Serves, fresh, live_now};
+ghost use Rattle.batch_order.specs.Steps.{Aborts, KeepsCurrent, Steps, actions_of, next_of};
+ghost use Rattle.batch_order.specs.Passed.{WayBackFrom};
+ghost use Rattle.batch_order.specs.Laws.{StepLeaves};
+ghost use Rattle.batch_order.specs.CarriedOut.{GoesForward, HasCarried, IsServed, IsStuckBy, IsTried, StopsBy, ahead, done_of, finished};
+ghost use Rattle.driven_device.specs.Driven.{CanHave, IsSetUpFault};
 
-use batch_order::{
-    AbortFault, Done, Field, Manager, Mode, Placement, Refusal, RestartFault, Step, Unfinished,
-};
-use readback::Parts;
-use rule_model::{Key, Rank};
+use crate::SetUpFault;
+use batch_order::{AbortFault, Done, Manager, Mode, Placement, Refusal, Step, Unfinished};
 use rule_store::Batch;
 use slot_order::MOST_SLOTS;
 use std::alloc::{AllocError, Global};
 use std::marker::Model;
-use tcam_device::{Device, DeviceFault, MOST_IN_FLIGHT, ReadBack};
-use thiserror::Error;
+use tcam_device::{Device, DeviceFault};
 
-/// Why a device isn't driven.
-#[derive(Clone, Copy, Debug, PartialEq, Eq, Error)]
-pub enum SetUpFault {
-    /// A manager has 1 to 4,096 slots.
-    #[error("a device of {0} slots isn't driven")]
-    Slots(u32),
-    /// There is no memory for a manager.
-    #[error("want of memory")]
-    Memory,
-}
-
-/// Why a device isn't driven on by another manager.
-#[derive(Clone, Copy, Debug, PartialEq, Eq, Error)]
-pub enum RestartedFault {
-    /// A manager has 1 to 4,096 slots, and its device has them.
-    #[error("{0} slots aren't driven on")]
-    Slots(u32),
-    /// By covers the tables are blank.
-    #[error("a table has words")]
-    Tables,
-    /// `Manager::restart` is refused, as it says.
-    #[error("no restart: {0}")]
-    Restart(RestartFault),
-}
-
-impl From<AllocError> for SetUpFault {
-    fn from(_: AllocError) -> SetUpFault {
-        SetUpFault::Memory
-    }
-}
-
-impl From<(RestartedFault, Parts)> for RestartedFault {
-    fn from(refused: (RestartedFault, Parts)) -> RestartedFault {
-        refused.0
-    }
-}
-
-/// A manager, and a device with its slots and with room for what is left of its commit, forward and back.
+/// A manager, and the device that it drives. The device has its slots, and room for what is left of a commit, forward and
+/// back, and it holds what the manager's writes left: so each call may come at any time.
 #[derive(Drop)]
 pub struct Driven<D: Device> {
-    manager: Manager,
-    device: D,
+    pub(crate) manager: Manager,
+    pub(crate) device: D,
 }
 
-/// Contracts see nothing of it, so the proof of a test carries nothing along.
 impl<D: Device> Model for Driven<D> {
-    ghost use Rattle.driven_device.specs.Driven.{IsDriven};
+    ghost use Rattle.driven_device.specs.Driven.{DrivenView, IsDriven};
 
-    ghost Value = { Unit {0} };
+    ghost Value = { DrivenView };
 
-    ghost view = { λ driven. tt };
+    ghost view = { λ driven. record { manager = driven.manager; device = D.view driven.device } };
 
-    ghost invariant = { λ driven. IsDriven driven.manager (D.slot_count driven.device) (D.spare driven.device) };
+    ghost invariant = { λ driven. IsDriven driven.manager (D.view driven.device) };
+}
+
+/// Whether a manager can have so many slots, of a device with this many.
+pub(crate) fn can_have(slots: u32, device_slots: u32) -> bool
+    ensures { IsTrue result ↔ CanHave slots device_slots }
+{
+    1 <= slots && slots <= MOST_SLOTS && slots <= device_slots
 }
 
 impl<D: Device + Drop> Driven<D> {
-    /// A manager of no rules over a blank device, of all of its slots.
+    /// A manager without rules over a blank device, with so many of its slots in use: over a new one, or one whose slots and
+    /// tables were emptied. By `Cover` a rule takes an entry for each pair of blocks of its port ranges; by `Bits` it takes
+    /// one, and each range that isn't one block takes a bit of its field's translation table. Each insertion aims where the
+    /// placement says: `Rank` for routes, `Ends` for an access list.
+    ///
+    /// `Slots` comes exactly where that isn't 1 to 4,096 slots, or the device hasn't them; else it fails only for want of
+    /// memory. The device is let go then.
     pub fn new(
         alloc: Global,
+        slots: u32,
         mode: Mode,
         placement: Placement,
         device: D,
-    ) -> Result<Driven<D>, SetUpFault> {
-        let slots = device.slots();
-        if slots < 1 || slots > MOST_SLOTS {
+    ) -> Result<Driven<D>, SetUpFault>
+        requires blank { device_state (D.view device) ≡ blank (D.view device).slots }
+        ensures manager { IfOk result (λ driven. driven.manager ≡ fresh slots mode placement) }
+        ensures device { IfOk result (λ driven. driven.device ≡ D.view device) }
+        ensures in_use { OnOk result (CanHave slots (D.view device).slots) }
+        ensures fault { IfErr result (λ fault. IsSetUpFault slots (D.view device).slots fault) }
+    {
+        if !can_have(slots, device.slots()) {
             return Err(SetUpFault::Slots(slots));
         }
-        let manager = Manager::new(alloc, slots, mode, placement)?;
-        Ok(Driven { manager, device })
-    }
-}
-
-impl<D: ReadBack + Drop> Driven<D> {
-    /// What the manager leaves of itself: the rules of its set and their live port ranges, of the old set while a
-    /// commit is under way. The device is given up.
-    pub fn into_parts(self) -> Parts {
-        self.manager.into_parts()
-    }
-
-    /// Goes on with a batch's commit that was stopped, over the device as it was left: by what the old set's manager
-    /// left of itself, and with the slots in use and the encoding that it had. The manager holds what is left of the
-    /// commit.
-    ///
-    /// It fails with `Slots` where a manager can't have so many slots or the device hasn't them, then with `Tables`
-    /// where by covers a table isn't blank, and else as `Manager::restart` does. The parts come back as they were, and
-    /// the device is given up.
-    pub fn restart(
-        alloc: Global,
-        slots: u32,
-        mode: Mode,
-        placement: Placement,
-        parts: Parts,
-        batch: &Batch,
-        mut device: D,
-    ) -> Result<Driven<D>, (RestartedFault, Parts)>
-        ensures { IfErr result (λ refused. refused.1 ≡ parts) }
-    {
-        if slots < 1 || slots > MOST_SLOTS || slots > device.slots() {
-            return Err((RestartedFault::Slots(slots), parts));
-        }
-        if mode == Mode::Cover && !has_blank_tables(&device) {
-            return Err((RestartedFault::Tables, parts));
-        }
-        match Manager::restart(alloc, slots, mode, placement, parts, batch, &mut device) {
+        match Manager::new(alloc, slots, mode, placement) {
             Ok(manager) => Ok(Driven { manager, device }),
-            Err((fault, back)) => Err((RestartedFault::Restart(fault), back)),
+            Err(AllocError) => Err(SetUpFault::Memory),
         }
     }
-
-    /// Drops the manager, and goes on with the commit of a batch by what it leaves of itself, over its device, as
-    /// `restart` does. Where this fails parts and device are given up.
-    pub fn restarted(
-        self,
-        alloc: Global,
-        slots: u32,
-        mode: Mode,
-        placement: Placement,
-        batch: &Batch,
-    ) -> Result<Driven<D>, RestartedFault> {
-        let parts = self.manager.into_parts();
-        let device = self.device;
-        Ok(Driven::restart(alloc, slots, mode, placement, parts, batch, device)?)
-    }
-}
-
-/// Whether each word of both tables is 0.
-fn has_blank_tables<D: ReadBack>(device: &D) -> bool
-    ensures { IsTrue result → HasBlankTables (replay (D.slot_count device.now) (D.journal device.now)) }
-{
-    is_blank(device, Field::Src) && is_blank(device, Field::Dst)
-}
-
-/// Whether each word of a field's table is 0.
-fn is_blank<D: ReadBack>(device: &D, field: Field) -> bool
-    ensures { IsTrue result → table_of field (replay (D.slot_count device.now) (D.journal device.now)) ≡ blank_table }
-{
-    for port in 0..65_536u32 {
-        if device.read_word(field, port as u16) != 0 {
-            return false;
-        }
-    }
-    true
 }
 
 impl<D: Device> Driven<D> {
-    /// The manager, to be asked.
-    pub fn manager(&self) -> &Manager {
-        &self.manager
+    /// Judges a batch of changes to the rules. Where it is taken, all of its writes are planned and all memory for them is
+    /// taken, the device's too, so that nothing can fail for memory until the commit has come to its end. The answer has the
+    /// numbers of the writes, none of which is made yet: `step` and `carry_out` make them. Whatever it is, each key is
+    /// answered as before.
+    ///
+    /// Refusals are tried in this order, and leave rules, manager, and what was written as they were. `Busy` comes exactly
+    /// while a commit is under way, with the writes that are left. Else the rule lists alone decide (`Rejected`): `Unsound`
+    /// by the first command that the set doesn't take; by bits `Bits`, of the source field before the destination's; `Slots`
+    /// where the additions need more entries than slots are free. `Memory` comes last.
+    pub fn prepare(&mut self, batch: &Batch) -> Result<Done, Refusal>
+        ensures judged { Judges self.old.manager self.old.manager.held batch.now result }
+        ensures ready { IfOk result (λ counts. Holds self.old.manager batch.now counts self.new.manager) }
+        ensures refused { OnErr result (self.new.manager ≡ self.old.manager) }
+        ensures way_back { OnOk result (WayBackFrom self.old.manager.state self.new.manager) }
+        ensures others { IsSameButSpare self.old.device self.new.device }
+        ensures leaves { StepLeaves self.old.manager self.new.manager self.old.device.spare self.new.device.spare }
+        ensures before { Serves (device_state self.new.device) self.old.manager.rules self.old.manager.held }
+        ensures serves { Serves (device_state self.new.device) self.new.manager.rules self.new.manager.held }
+    {
+        let answer = self.manager.prepare(batch, &mut self.device);
+        self.manager.serving();
+        answer
     }
 
-    /// The device, to be looked at.
-    pub fn device(&self) -> &D {
-        &self.device
-    }
-
-    /// The result of a packet.
-    pub fn result_of(&self, key: &Key) -> Option<u32> {
-        match self.device.look(key) {
-            Some((_, answer)) => Some(answer),
-            None => None,
-        }
-    }
-
-    /// The result of a packet by the rules of the set.
-    pub fn result_by_rules(&self, key: &Key) -> Option<u32> {
-        match self.manager.rules().best(key) {
-            Some(rule) => Some(rule.result),
-            None => None,
-        }
-    }
-
-    /// Judges a batch and plans its commit, by `Manager::prepare` over the device: a refusal is of that call, and
-    /// leaves both as they were.
-    pub fn prepare(&mut self, batch: &Batch) -> Result<Done, Refusal> {
-        self.manager.prepare(batch, &mut self.device)
-    }
-
-    /// Makes the next write of the commit under way, or what else is due, by `Manager::step`: it fails where the write
-    /// does, which stays the next one.
-    pub fn step(&mut self) -> Result<Step, DeviceFault> {
+    /// Makes the next write of the commit under way, forward, or back once it is turned round. Where the commit gives new
+    /// bits, a drain is next once the words of the tables are written: while words are in flight the answer is `Waiting`
+    /// with their number, and nothing changes; with none in flight it drains. With nothing left the answer is `Finished`, and
+    /// the rules are the new set, or `Reverted`, and they are the old one. With no commit under way the answer is `Idle`, and
+    /// nothing changes. It takes no memory.
+    ///
+    /// A failure comes exactly where a write is due and the device's count of failures rose. It changes nothing, and the
+    /// same write is next again.
+    ///
+    /// After it, also after a failure, and also where the hardware made the write that failed, each key is answered as the
+    /// rules do, and while a commit is under way as the old ones or the new ones do.
+    pub fn step(&mut self) -> Result<Step, DeviceFault>
+        ensures stepped { IfOk result (λ step. Steps self.old.manager (length self.old.device.flight) self.old.manager.held step self.new.manager) }
+        ensures keeps { IfOk result (λ step. KeepsCurrent self.old.manager step self.new.manager) }
+        ensures way_back { (begun : State) → WayBackFrom begun self.old.manager → WayBackFrom begun self.new.manager }
+        ensures made { IfOk result (λ step. HasMade (actions_of step) self.old.device self.new.device) }
+        ensures failed { OnErr result (self.new.manager ≡ self.old.manager) }
+        ensures unmade { OnErr result (IsUntouched self.old.device self.new.device) }
+        ensures due { OnErr result (IsSome (next_of self.old.manager.held)) }
+        ensures cause { HasCause self.old.device.faults self.new.device.faults result }
+        ensures leaves { StepLeaves self.old.manager self.new.manager self.old.device.spare self.new.device.spare }
+        ensures serves { Serves (device_state self.new.device) self.new.manager.rules self.new.manager.held }
+        ensures serves_err { OnErr result (IfSome (next_of self.old.manager.held) (λ write. Serves (apply (device_state self.new.device) write) self.new.manager.rules self.new.manager.held)) }
+    {
         self.manager.step(&mut self.device)
     }
 
-    /// Makes all that is left, each write tried up to `tries` times, at least once, by `Manager::carry_out`: it stops
-    /// as that call does, and the rest stays held.
+    /// Makes all writes that are left of the commit under way, in their order, each tried up to `tries` times, at least
+    /// once: 1 tries none again. With the last of them the rules become the new set, and the answer has the numbers of the
+    /// commit. With no commit under way they are all 0, and nothing changes. It takes no memory.
+    ///
+    /// `Stuck` comes where one write has failed `tries` times. The writes before it were made, and it is the next: so
+    /// `carry_out` may be called again, and where that write surely wasn't made the commit may be turned round (`abort`).
+    /// `Waiting` comes exactly where the drain is next and words are in flight, with their number: once they have been
+    /// searched the call is made again. `Reverted` comes where the commit was turned round: its undo writes were made, and
+    /// the rules are the old ones.
+    ///
+    /// Each key is answered as the old rules or the new ones do before the first write and after each, also where the write
+    /// that failed was made all the same; and once the commit has finished as the new ones do.
     pub fn carry_out(&mut self, tries: u32) -> Result<Done, Unfinished>
         requires { 1 ≤ tries }
+        ensures done { IfOk result (λ done. done ≡ done_of self.old.manager.held) }
+        ensures was_forward { OnOk result (GoesForward self.old.manager.held) }
+        ensures finished { OnOk result (self.new.manager ≡ finished self.old.manager) }
+        ensures rules { OnOk result ((was : Managed) → (batch : List Command) → (counts : Done) → Holds was batch counts self.old.manager → self.new.manager.rules ≡ set_after was.rules batch) }
+        ensures carried { HasCarried self.old.manager.held self.new.manager.held self.old.device self.new.device }
+        ensures stopped { IfErr result (λ halt. StopsBy self.old.manager self.new.manager (journal self.old.device) (journal self.new.device) (length self.old.device.flight) halt) }
+        ensures way_back { (begun : State) → WayBackFrom begun self.old.manager → WayBackFrom begun self.new.manager }
+        ensures leaves { StepLeaves self.old.manager self.new.manager self.old.device.spare self.new.device.spare }
+        ensures tried { IsTried tries (length (journal self.new.device) - length (journal self.old.device)) (IsStuckBy result) self.old.device.faults self.new.device.faults }
+        ensures hitless { IsServed self.new.device.slots (journal self.old.device) (journal self.new.device) self.old.manager.rules (ahead self.old.manager) }
+        ensures serves { Serves (device_state self.new.device) self.new.manager.rules self.new.manager.held }
+        ensures serves_err { OnErr result (IfSome (next_of self.new.manager.held) (λ write. Serves (apply (device_state self.new.device) write) self.new.manager.rules self.new.manager.held)) }
     {
         self.manager.carry_out(&mut self.device, tries)
     }
 
-    /// Turns the commit under way round, by `Manager::abort`, and answers how many writes undo it. It is refused as
-    /// that call is, and nothing changes then.
-    pub fn abort(&mut self) -> Result<u64, AbortFault> {
-        self.manager.abort()
-    }
-
-    /// Puts a packet's word into flight, and answers whether there was room for it.
-    pub fn translate(&mut self, key: &Key) -> bool {
-        if self.device.in_flight() >= MOST_IN_FLIGHT {
-            return false;
-        }
-        self.device.translate(key);
-        true
-    }
-
-    /// Takes the oldest word out of flight.
-    pub fn search(&mut self) -> Option<Option<(Rank, u32)>> {
-        self.device.search()
+    /// Turns the commit under way round: from now on `step` and `carry_out` undo the writes that were made, the last one
+    /// first, and end with `Reverted`. The answer is how many undo writes there are. Each key is answered as the old rules or
+    /// the new ones do all along. It writes nothing and takes no memory.
+    ///
+    /// The writes that are undone are those that were answered Ok. Where the last `step` answered a failure and the
+    /// hardware may have made that write all the same, make it first: `step` until it is answered Ok.
+    ///
+    /// `Idle` comes exactly where no commit is under way, `Restarted` exactly where a restart goes on with the one that is,
+    /// and else `Back` exactly where it is turned round already, with the undo writes that are left. Nothing changes then.
+    pub fn abort(&mut self) -> Result<u64, AbortFault>
+        ensures aborts { Aborts self.old.manager self.old.manager.held result self.new.manager }
+        ensures way_back { (begun : State) → WayBackFrom begun self.old.manager → WayBackFrom begun self.new.manager }
+        ensures current { live_now self.new.manager ≡ live_now self.old.manager }
+        ensures device { self.new.device ≡ self.old.device }
+        ensures serves { Serves (device_state self.new.device) self.new.manager.rules self.new.manager.held }
+    {
+        let answer = self.manager.abort();
+        self.manager.serving();
+        answer
     }
 }

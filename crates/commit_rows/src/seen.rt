@@ -1,6 +1,6 @@
 //! What a step did, in a word, and what packets get behind it.
-use crate::Driven;
 use batch_order::{Field, Step};
+use driven_device::Driven;
 use rule_model::Key;
 use tcam_device::{Device, Write};
 
@@ -34,13 +34,29 @@ pub fn what_it_did(step: &Step) -> Option<Told> {
     }
 }
 
+/// The result of a packet.
+pub fn result_of<D: Device>(driven: &Driven<D>, key: &Key) -> Option<u32> {
+    match driven.look(key) {
+        Some((_, answer)) => Some(answer),
+        None => None,
+    }
+}
+
+/// The result of a packet by the rules of the set.
+pub fn result_by_rules<D: Device>(driven: &Driven<D>, key: &Key) -> Option<u32> {
+    match driven.answer(key) {
+        Some((_, answer)) => Some(answer),
+        None => None,
+    }
+}
+
 /// The results of three packets.
 pub fn results<D: Device>(driven: &Driven<D>, packets: &[Key; 3]) -> Results {
     let [a, b, c] = packets;
     [
-        driven.result_of(a),
-        driven.result_of(b),
-        driven.result_of(c),
+        result_of(driven, a),
+        result_of(driven, b),
+        result_of(driven, c),
     ]
 }
 
@@ -48,8 +64,8 @@ pub fn results<D: Device>(driven: &Driven<D>, packets: &[Key; 3]) -> Results {
 pub fn results_by_rules<D: Device>(driven: &Driven<D>, packets: &[Key; 3]) -> Results {
     let [a, b, c] = packets;
     [
-        driven.result_by_rules(a),
-        driven.result_by_rules(b),
-        driven.result_by_rules(c),
+        result_by_rules(driven, a),
+        result_by_rules(driven, b),
+        result_by_rules(driven, c),
     ]
 }
