@@ -1,7 +1,7 @@
 -- A write matters to no key but those that it touches, and a commit's end to none but those of changed rules.
 use Rattle.std.proofs.Common.{◌≡◌, ℕ, zero, suc, ◌<◌, ◌≤◌, Bool, true, false, List, [], ◌∷◌, Option, None, Some, Contains, inl, inr, ◌⊎◌, option_map, slice_set, slice_index, refl, sym, ◌∙◌, subst, ap, ap₂, arith, get_or-set_other}
 use Rattle.std.specs.Prelude.{if◌then◌else◌}
-use Rattle.std.proofs.lemmas.Bool.{cases_Bool, cases_eq, cond-true, cond-false}
+use Rattle.std.proofs.lemmas.Bool.{cases_Bool, cases_eq, cond-true, cond-false, false_from_ne_true}
 use Rattle.slot_order.specs.Order.{slot, first_hit, IsBest, Distinct}
 use Rattle.slot_order.proofs.Rules.{best_best}
 use Rattle.rule_model.specs.declared.Key.{Key}
@@ -14,7 +14,7 @@ use Rattle.rule_model.specs.Word.{word_of}
 use Rattle.rule_model.specs.Entry.{hits}
 use Rattle.tcam_device.specs.declared.Write.TheVariants.{Slot, Table}
 use Rattle.tcam_device.specs.State.{State, apply, hits_key, lookup, told}
-use Rattle.any_order.specs.Touched.{HitsIt, IsOldOrNewAt, AreAmong, OneWriteIsJudgedByItsKeys, OneTableWriteIsJudgedByItsPort, OtherKeysKeepTheirAnswer, TheEndIsJudgedByChangedRules}
+use Rattle.any_order.specs.Touched.{AlikeSlotsKeepLookUps, HitsIt, IsOldOrNewAt, OtherPortsKeepLookUps, key_port, AreAmong, OneWriteIsJudgedByItsKeys, OneTableWriteIsJudgedByItsPort, OtherKeysKeepTheirAnswer, TheEndIsJudgedByChangedRules}
 
 -- a place hits, by a test
 abbrev hits_in : {E : Type 0} → (E → Bool) → Option E → Bool
@@ -98,21 +98,71 @@ by_words state [] key = refl
 by_words state (None ∷ slots) key = by_words state slots key
 by_words state (Some e ∷ slots) key = ap (λ (rest : Option Entry). if hits_key state e key then Some e else rest) (by_words state slots key)
 
+-- so the look-up of a key with another port stays
+pub other_ports_keep : OtherPortsKeepLookUps
+other_ports_keep state Src port word key other =
+    ap told (by_words (apply state (Table Src port word)) state.slots key)
+    ∙ same_words state.slots key _ _ _ _ (other_word state.src port word key.sport other) refl ∙ sym (ap told (by_words state state.slots key))
+other_ports_keep state Dst port word key other =
+    ap told (by_words (apply state (Table Dst port word)) state.slots key)
+    ∙ same_words state.slots key _ _ _ _ refl (other_word state.dst port word key.dport other) ∙ sym (ap told (by_words state state.slots key))
+
 pub judged_by_port : OneTableWriteIsJudgedByItsPort
-judged_by_port state old new Src port word before touched key valid = elim (cases_eq key.sport port) [
+judged_by_port state old new field port word before touched key valid = elim (cases_eq (key_port field key) port) [
   | inl same ↦ touched key valid same
-  | inr other ↦ subst (λ found. (found ≡ answer old key) ⊎ (found ≡ answer new key))
-      (sym (ap told (by_words (apply state (Table Src port word)) state.slots key)
-      ∙ same_words state.slots key _ _ _ _ (other_word state.src port word key.sport other) refl ∙ sym (ap told (by_words state state.slots key))))
-      (before key valid)
+  | inr other ↦ subst (λ found. (found ≡ answer old key) ⊎ (found ≡ answer new key)) (sym (other_ports_keep state field port word key other)) (before key valid)
 ]
-judged_by_port state old new Dst port word before touched key valid = elim (cases_eq key.dport port) [
-  | inl same ↦ touched key valid same
-  | inr other ↦ subst (λ found. (found ≡ answer old key) ⊎ (found ≡ answer new key))
-      (sym (ap told (by_words (apply state (Table Dst port word)) state.slots key)
-      ∙ same_words state.slots key _ _ _ _ refl (other_word state.dst port word key.dport other) ∙ sym (ap told (by_words state state.slots key))))
-      (before key valid)
-]
+
+-- what a slot and the slots behind it find
+abbrev or_rest : {E K : Type 0} → (E → K → Bool) → K → Option E → Option E → Option E
+or_rest test key None rest = rest
+or_rest test key (Some entry) rest = if test entry key then Some entry else rest
+
+first_of : {E K : Type 0} (test : E → K → Bool) (key : K) (held : Option E) (slots : List (Option E)) → first_hit test (held ∷ slots) key ≡ or_rest test key held (first_hit test slots key)
+first_of test key None slots = refl
+first_of test key (Some entry) slots = refl
+
+passed_over : {E K : Type 0} (test : E → K → Bool) (key : K) (held rest : Option E) → hits_in (λ (e : E). test e key) held ≡ false → or_rest test key held rest ≡ rest
+passed_over test key None rest miss = refl
+passed_over test key (Some entry) rest miss = cond-false _ _ _ miss
+
+-- the same slot, or one that misses on both sides
+abbrev AreAlikeAt : {E K : Type 0} → (E → K → Bool) → K → Option E → Option E → Type 0
+AreAlikeAt {E} test key was is = (is ≡ was) ⊎ ((hits_in (λ (e : E). test e key) was ≡ false) × (hits_in (λ (e : E). test e key) is ≡ false))
+
+vacant : {E K : Type 0} (test : E → K → Bool) (key : K) (held : Option E) → AreAlikeAt test key None held → hits_in (λ (e : E). test e key) held ≡ false
+vacant {E} test key held (inl same) = ap (hits_in (λ (e : E). test e key)) same
+vacant test key held (inr misses) = misses.1
+
+left_vacant : {E K : Type 0} (test : E → K → Bool) (key : K) (held : Option E) → AreAlikeAt test key held None → hits_in (λ (e : E). test e key) held ≡ false
+left_vacant {E} test key held (inl same) = ap (hits_in (λ (e : E). test e key)) (sym same)
+left_vacant test key held (inr misses) = misses.0
+
+same_first : {E K : Type 0} (test : E → K → Bool) (key : K) (was is rest : Option E) → AreAlikeAt test key was is → or_rest test key is rest ≡ or_rest test key was rest
+same_first test key was is rest (inl same) = ap (λ held. or_rest test key held rest) same
+same_first test key was is rest (inr misses) = passed_over test key is rest misses.1 ∙ sym (passed_over test key was rest misses.0)
+
+alike_slots : {E K : Type 0} (test : E → K → Bool) (key : K) (before after : List (Option E)) → ((at : ℕ) → AreAlikeAt test key (slot before at) (slot after at))
+    → first_hit test after key ≡ first_hit test before key
+alike_slots test key [] [] each = refl
+alike_slots test key [] (held ∷ after) each =
+    first_of test key held after ∙ passed_over test key held _ (vacant test key held (each zero)) ∙ alike_slots test key [] after (λ at. each (suc at))
+alike_slots test key (held ∷ before) [] each =
+    alike_slots test key before [] (λ at. each (suc at)) ∙ sym (first_of test key held before ∙ passed_over test key held _ (left_vacant test key held (each zero)))
+alike_slots test key (was ∷ before) (is ∷ after) each =
+    first_of test key is after ∙ ap (or_rest test key is) (alike_slots test key before after (λ at. each (suc at)))
+    ∙ same_first test key was is _ (each zero) ∙ sym (first_of test key was before)
+
+missed : (state : State) (key : Key) (content : Option Entry) → (HitsIt state key content → ⊥) → hits_in (λ e. hits_key state e key) content ≡ false
+missed state key None miss = refl
+missed state key (Some entry) miss = false_from_ne_true _ miss
+
+pub alike_slots_keep : AlikeSlotsKeepLookUps
+alike_slots_keep state slots key each =
+    ap told (alike_slots (hits_key state) key state.slots slots (λ at. elim (each at) [
+      | inl same ↦ inl same
+      | inr misses ↦ inr (missed state key (slot state.slots at) misses.0, missed state key (slot slots at) misses.1)
+    ]))
 
 -- the answer of a rule that was found
 abbrev answer_of : Option Rule → Answer

@@ -66,3 +66,16 @@ TheEndIsJudgedByChangedRules =
     → ShowsOldOrNew state old new
     → ((key : Key) (rule : Rule) → IsKey key → Contains changed rule → IsTrue (rule_matches rule key) → lookup state key ≡ answer new key)
     → Shows state new
+
+-- Slots that differ only in what doesn't hit a key answer it alike, whatever moved.
+abbrev pub AlikeSlotsKeepLookUps : Type 0
+AlikeSlotsKeepLookUps =
+    (state : State) (slots : List (Option Entry)) (key : Key)
+    → ((at : ℕ) → (slot slots at ≡ slot state.slots at) ⊎ ((HitsIt state key (slot state.slots at) → ⊥) × (HitsIt state key (slot slots at) → ⊥)))
+    → lookup (record state { slots = slots }) key ≡ lookup state key
+
+-- And so does a table's word at another port.
+abbrev pub OtherPortsKeepLookUps : Type 0
+OtherPortsKeepLookUps =
+    (state : State) (field : Field) (port word : ℕ) (key : Key) → (key_port field key ≡ port → ⊥)
+    → lookup (apply state (Table field port word)) key ≡ lookup state key

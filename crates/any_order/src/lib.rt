@@ -8,7 +8,7 @@
 mod laws;
 
 pub use laws::{
-    any_order_answers_old_or_new, one_table_write_is_judged_by_its_port,
-    one_write_is_judged_by_its_keys, other_keys_keep_their_answer,
+    alike_slots_keep_look_ups, any_order_answers_old_or_new, one_table_write_is_judged_by_its_port,
+    one_write_is_judged_by_its_keys, other_keys_keep_their_answer, other_ports_keep_look_ups,
     the_end_is_judged_by_changed_rules,
 };

@@ -1,0 +1,4 @@
+pub mod Leaks
+pub mod Yes
+pub mod No
+pub mod Read

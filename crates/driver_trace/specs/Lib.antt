@@ -1,0 +1,5 @@
+pub mod DriverLines
+pub mod Known
+pub mod Compared
+pub mod Judged
+pub mod Told
