@@ -1,0 +1,18 @@
+//! The command line of importers, `tcam import FORMAT`, and its top call.
+//!
+//! [`run_import`] reads its words (`asked`), and has what the source gives imported by the format that they name. What is
+//! promised of an import is `import_lines`', what a line of a format comes to is that format's.
+//!
+//! # Decided
+//! - **A format is a word and not a subcommand**, and all formats have the same options: an option that a format has no use
+//!   for is no command line.
+//! - **`--version` says which version of IP the input is of**, 4 by default: a line of routes doesn't always show it, as that
+//!   of `default` alone.
+#![tactic(auto)]
+
+mod asked;
+mod texts;
+mod top;
+
+pub use asked::{Asked, Format, WordsFault, read_words};
+pub use top::run_import;

@@ -1,0 +1,36 @@
+//! The texts that the program prints about importers.
+
+/// What is printed where words are no command line.
+pub(crate) const USAGE: &str = "usage\n";
+
+/// The help.
+pub(crate) const IMPORT_HELP: &str = "\
+tcam import: reads what another program prints, and writes a script.
+
+    ip -o route show | tcam import ip-routes | tcam route
+    ip -6 -o route show | tcam import ip-routes --version 6 | tcam route6
+
+    tcam import FORMAT [--version V] [--leave-out]
+
+FORMAT is ip-routes: the lines of ip -o route show, of one table. Where packets
+of a route go gets a number, which a comment tells before its first use.
+
+Each line is said, or the script ends at it: its last line has the number of
+the line, why it can't be said, and the word. It has no commit then, and no
+reader of scripts takes its last line for a command.
+
+Options:
+    --version V     the version of IP, 4 or 6, by default 4
+    --leave-out     a line that can't be said is a comment, and how many of
+                    them there are stands at the end
+
+Exit status:
+    0   the input was read to its end
+    2   a line can't be said, is too long or has a bad byte
+    3   standard input could not be read
+    4   standard output could not be written
+    6   memory is wanting
+    64  the words are no command line
+
+The manual is docs/IMPORT.md.
+";

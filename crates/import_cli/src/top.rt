@@ -1,0 +1,66 @@
+//! The top call: a command line, a source and a sink.
+
+ghost use Rattle.std.specs.Prelude.{◌≡◌, Bool, ℕ, List};
+ghost use Rattle.call_history.specs.Cause.{IsCounted};
+ghost use Rattle.script_lines.specs.Given.{GivesPieces, counted};
+ghost use Rattle.import_cli.specs.Jobs.{ImportJob, CarriesOut};
+
+use crate::asked::{Asked, Format, WordsFault, read_words};
+use crate::texts::{IMPORT_HELP, USAGE};
+use import_lines::{import, write_last};
+use ip_routes::IpRoutes;
+use script_lines::{Sink, Source};
+use script_runs::Status;
+use std::alloc::Global;
+
+/// Does what the words ask for, the program's name first, `import` behind it, and then a format and options: writes the
+/// script that the source's lines are to the sink, line by line, or the product's own text. The statuses are those of
+/// `import_lines::import`; `Usage` comes where the words are no command line. `ReadFault` comes exactly where the source
+/// failed, `WriteFault` exactly where the sink did. Which words ask for what is nowhere promised.
+pub fn run_import<S: Source, K: Sink>(
+    alloc: Global,
+    words: &[String],
+    source: &mut S,
+    sink: &mut K,
+) -> Status
+    ensures job { (pieces : List (List ℕ)) × GivesPieces (S.given source.old) (S.given source.new) (S.left source.old) (S.left source.new) pieces
+        × ((job : ImportJob) × ((which : Bool) → CarriesOut job pieces result (counted which (K.taken sink.old) (K.accepted sink.old)) (counted which (K.taken sink.new) (K.accepted sink.new)))) }
+    ensures read { IsCounted (result ≡ Status.ReadFault) (S.faults source.old) (S.faults source.new) }
+    ensures written { IsCounted (result ≡ Status.WriteFault) (K.faults sink.old) (K.faults sink.new) }
+{
+    match read_words(alloc, words) {
+        Ok(asked) => carry_out(alloc, asked, source, sink),
+        Err(WordsFault::Usage) => write_last(sink, USAGE.as_bytes(), Status::Usage),
+        Err(WordsFault::Memory) => Status::Memory,
+    }
+}
+
+/// Does what is asked for.
+fn carry_out<S: Source, K: Sink>(
+    alloc: Global,
+    asked: Asked,
+    source: &mut S,
+    sink: &mut K,
+) -> Status
+    ensures job { (pieces : List (List ℕ)) × GivesPieces (S.given source.old) (S.given source.new) (S.left source.old) (S.left source.new) pieces
+        × ((job : ImportJob) × ((which : Bool) → CarriesOut job pieces result (counted which (K.taken sink.old) (K.accepted sink.old)) (counted which (K.taken sink.new) (K.accepted sink.new)))) }
+    ensures read { IsCounted (result ≡ Status.ReadFault) (S.faults source.old) (S.faults source.new) }
+    ensures written { IsCounted (result ≡ Status.WriteFault) (K.faults sink.old) (K.faults sink.new) }
+{
+    match asked {
+        Asked::Import {
+            format: Format::IpRoutes,
+            version,
+            leave_out,
+        } => {
+            import(
+                alloc,
+                IpRoutes::new(alloc, version),
+                leave_out,
+                source,
+                sink,
+            )
+        }
+        Asked::Help => write_last(sink, IMPORT_HELP.as_bytes(), Status::Done),
+    }
+}

@@ -1,0 +1,5 @@
+pub mod ScriptParts
+pub mod Rounds
+pub mod Tells
+pub mod Whole
+pub mod Accounts

@@ -1,0 +1,4 @@
+pub mod Import
+pub mod Imported
+pub mod Rounds
+pub mod Writes
