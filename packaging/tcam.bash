@@ -1,11 +1,14 @@
 # Completion of tcam's words for bash: subcommands, and of each its options with their values.
 _tcam() {
     local word=${COMP_WORDS[COMP_CWORD]} before=${COMP_WORDS[COMP_CWORD - 1]} command=${COMP_WORDS[1]} words=
+    if [ "$command" = explain ] && [ "$COMP_CWORD" -gt 2 ]; then command=${COMP_WORDS[2]}; fi # behind it a command line
     case $before in
     --ranges) words="cover bits" ;;
     --placement) words="middle rank ends" ;;
     --slots | --depth | --commit | --commits) ;; # a number, or two
-    tcam | */tcam) words="route acl route6 acl6 router router6 gen verify draw --help --version" ;;
+    import) words="ip-routes --version --leave-out --help" ;;
+    tcam | */tcam) words="route acl route6 acl6 router router6 gen verify draw explain import --help --version" ;;
+    explain) words="route acl route6 acl6 router router6 gen verify draw import --help" ;;
     *)
         case $command in
         route | route6) words="--slots --placement --trace --depth --json --help" ;;
@@ -14,6 +17,7 @@ _tcam() {
         gen) words="--slots --ranges --placement --help" ;;
         verify) words="--help" ;;
         draw) words="--commit --commits --occupancy --help" ;;
+        import) words="--version --leave-out --help" ;;
         esac
         ;;
     esac

@@ -1,8 +1,8 @@
 //! The program `tcam`: `tcam_cli`'s `run` over standard input, standard output and a blank device in memory; where the first
-//! word behind its name is `router` or `router6`, `router_cli`'s `run_router` over two, and where it is `draw`, `trace_draw`'s
-//! `draw`.
+//! word behind its name is `router` or `router6`, `router_cli`'s `run_router` over two, where it is `draw`, `trace_draw`'s
+//! `draw`, where it is `explain`, `explain_cli`'s `explain`, and where it is `import`, `import_cli`'s `run_import`.
 //!
-//! What these three promise is proved; of these few lines nothing is said. What std's reader and writer do with the files is
+//! What these five promise is proved; of these few lines nothing is said. What std's reader and writer do with the files is
 //! trusted.
 //!
 //! # Decided
@@ -13,6 +13,8 @@
 
 mod modelled;
 
+use explain_cli::explain;
+use import_cli::run_import;
 use memory_tcam::Shadowed;
 use modelled::Modelled;
 use router_cli::run_router;
@@ -57,6 +59,8 @@ fn run_process(rt: &HostRuntime) -> Result<Status, AllocError> {
     let mut sink = WriteTo::new(rt.stdout());
     match subcommand(words.as_slice()) {
         "draw" => Ok(draw(rt.alloc(), words.as_slice(), &mut source, &mut sink)),
+        "explain" => Ok(explain(rt.alloc(), words.as_slice(), &mut source, &mut sink)),
+        "import" => Ok(run_import(rt.alloc(), words.as_slice(), &mut source, &mut sink)),
         "router" | "router6" => run_on_two(rt, words.as_slice(), &mut source, &mut sink),
         _ => run_on_device(rt, words.as_slice(), &mut source, &mut sink),
     }

@@ -59,7 +59,7 @@
 //! - **Each subcommand's `--help` lists what it takes** (`help_on`, `Asked::Help`, `Topic`). `clap`'s error has a kind
 //!   and names no subcommand, so the word behind the program's name says whose help it is (`topic_in`), which is
 //!   enough: `tcam` itself has no option that may stand before a subcommand, but those that print a text. The texts are
-//!   in the contract to the letter (`specs/OwnTexts`); the price is that these are 218 lines to be believed. `--trace`
+//!   in the contract to the letter (`specs/OwnTexts`); the price is that these are 228 lines to be believed. `--trace`
 //!   is said to have a line for each write and each drain also in the helps of routes, of which no commit drains: one
 //!   line serves all.
 //! - **`--placement` and `--ranges` are parts of a run's setting** (`script_setting`, `Asked::Script`, `placement_in`,

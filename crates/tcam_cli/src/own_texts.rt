@@ -67,6 +67,10 @@ Options:
     --depth K        of these, after how many further writes the words of the
                      probes are searched: 0 to 15, by default 0, at once
 
+When something is wrong:
+    tcam explain WORDS.. < FILE    tells which of WORDS is wrong, and what it may
+                                   be, or each fault and refusal of the script
+
 Exit status:
     0     the script was read, or made, to its end and no commit was refused,
           or a text like this one was printed; of verify, the trace is orderly

@@ -1,0 +1,127 @@
+-- What is foretold comes about, whatever becomes of the trials; and without trials no other refusal does.
+use Rattle.std.proofs.Common.{◌≡◌, ◌≢◌, Bool, true, false, List, [], ◌∷◌, ◌++◌, drop, map, filter, not, refl, sym, ◌∙◌, ap, subst}
+use Rattle.std.specs.List.{AllByRecursion}
+use Rattle.rule_model.specs.declared.Rule.{Rule}
+use Rattle.rule_store.specs.declared.Command.{Command as Change}
+use Rattle.rule_store.specs.Batch.{set_after, removes, with_result_after}
+use Rattle.rule_store.specs.Verdict.{Verdict, Accepted, Unsound, OutOfBits, OutOfSlots, verdict}
+use Rattle.replay.specs.declared.Act.{Act}
+use Rattle.replay.specs.declared.Act.TheVariants.{Command, Probe, Packet, Commit, Trial, Crash}
+use Rattle.replay.specs.Effects.{Setting}
+use Rattle.replay.specs.Script.{Script}
+use Rattle.script_runs.specs.declared.Status.{Status}
+use Rattle.script_runs.specs.declared.Status.TheVariants.{Done, Refused, Script as ScriptFault}
+use Rattle.script_runs.specs.Script.{ScriptEnd, Whole, FaultAt, acts_of}
+use Rattle.tcam_cli.specs.Headline.{any_refused, decided, is_back}
+use Rattle.explain.specs.Explained.{IsNoTrial, foretells, judged_by}
+
+-- ---- a batch of no changes
+
+kept-none : (rules : List Rule) → map (with_result_after []) (filter (λ rule. not (removes rule.priority [])) rules) ≡ rules
+kept-none [] = refl
+kept-none (rule ∷ rules) = ap (λ rest. rule ∷ rest) (kept-none rules)
+
+pub set-after-none : (rules : List Rule) → set_after rules [] ≡ rules
+set-after-none rules = kept-none rules
+
+-- ---- one verdict
+
+abbrev refused_by : Verdict → Bool → Bool
+refused_by v behind = elim v [
+  | Accepted ↦ behind
+  | _ ↦ true
+]
+
+judged-comes : (v : Verdict) (a b : Bool) → (a ≡ true → b ≡ true) → judged_by v a ≡ true → refused_by v b ≡ true
+judged-comes Accepted a b more e = more e
+judged-comes (Unsound fault) a b more e = refl
+judged-comes (OutOfBits field needed free) a b more e = refl
+judged-comes (OutOfSlots needed free) a b more e = refl
+
+judged-same : (v : Verdict) (a b : Bool) → a ≡ b → judged_by v a ≡ refused_by v b
+judged-same Accepted a b e = e
+judged-same (Unsound fault) a b e = refl
+judged-same (OutOfBits field needed free) a b e = refl
+judged-same (OutOfSlots needed free) a b e = refl
+
+either-true : (back a b : Bool) → a ≡ true → b ≡ true → (elim back [ true ↦ a | false ↦ b ]) ≡ true
+either-true true a b x y = x
+either-true false a b x y = y
+
+-- ---- all acts
+
+-- what is foretold comes
+pub foretold-comes : (setting : Setting) (backs : List Bool) (rules : List Rule) (batch : List Change) (acts : List Act)
+    → foretells setting.slots setting.mode rules batch acts ≡ true → any_refused setting backs rules batch acts ≡ true
+foretold-comes setting backs rules batch [] e = e
+foretold-comes setting backs rules batch (Command change ∷ acts) e = foretold-comes setting backs rules (batch ++ change ∷ []) acts e
+foretold-comes setting backs rules batch (Probe key ∷ acts) e = foretold-comes setting backs rules batch acts e
+foretold-comes setting backs rules batch (Packet key ∷ acts) e = foretold-comes setting backs rules batch acts e
+foretold-comes setting backs rules batch (Commit ∷ acts) e =
+    judged-comes (verdict setting.slots setting.mode rules batch) (foretells setting.slots setting.mode (set_after rules batch) [] acts) (any_refused setting backs (set_after rules batch) [] acts)
+    (foretold-comes setting backs (set_after rules batch) [] acts) e
+foretold-comes setting backs rules [] (Trial most ∷ acts) e =
+    judged-comes (verdict setting.slots setting.mode rules []) (foretells setting.slots setting.mode (set_after rules []) [] acts)
+    (elim (is_back backs) [ true ↦ any_refused setting (drop 1 backs) rules [] acts | false ↦ any_refused setting (drop 1 backs) (set_after rules []) [] acts ])
+    (λ more. either-true (is_back backs) (any_refused setting (drop 1 backs) rules [] acts) (any_refused setting (drop 1 backs) (set_after rules []) [] acts)
+    (foretold-comes setting (drop 1 backs) rules [] acts (subst (λ old. foretells setting.slots setting.mode old [] acts ≡ true) (set-after-none rules) more))
+    (foretold-comes setting (drop 1 backs) (set_after rules []) [] acts more)) e
+foretold-comes setting backs rules (change ∷ changes) (Trial most ∷ acts) e =
+    judged-comes (verdict setting.slots setting.mode rules (change ∷ changes)) false
+    (elim (is_back backs) [ true ↦ any_refused setting (drop 1 backs) rules [] acts | false ↦ any_refused setting (drop 1 backs) (set_after rules (change ∷ changes)) [] acts ])
+    (λ more. let bad : false ≡ true = more in absurd (cc)) e
+foretold-comes setting backs rules batch (Crash after ∷ acts) e =
+    judged-comes (verdict setting.slots setting.mode rules batch) (foretells setting.slots setting.mode (set_after rules batch) [] acts) (any_refused setting backs (set_after rules batch) [] acts)
+    (foretold-comes setting backs (set_after rules batch) [] acts) e
+
+-- without trials nothing else comes
+pub foretold-alone : (setting : Setting) (backs : List Bool) (rules : List Rule) (batch : List Change) (acts : List Act) → AllByRecursion IsNoTrial acts
+    → foretells setting.slots setting.mode rules batch acts ≡ any_refused setting backs rules batch acts
+foretold-alone setting backs rules batch [] none = refl
+foretold-alone setting backs rules batch (Command change ∷ acts) none = foretold-alone setting backs rules (batch ++ change ∷ []) acts none.1
+foretold-alone setting backs rules batch (Probe key ∷ acts) none = foretold-alone setting backs rules batch acts none.1
+foretold-alone setting backs rules batch (Packet key ∷ acts) none = foretold-alone setting backs rules batch acts none.1
+foretold-alone setting backs rules batch (Commit ∷ acts) none =
+    judged-same (verdict setting.slots setting.mode rules batch) (foretells setting.slots setting.mode (set_after rules batch) [] acts) (any_refused setting backs (set_after rules batch) [] acts)
+    (foretold-alone setting backs (set_after rules batch) [] acts none.1)
+foretold-alone setting backs rules batch (Trial most ∷ acts) none = absurd none.0
+foretold-alone setting backs rules batch (Crash after ∷ acts) none =
+    judged-same (verdict setting.slots setting.mode rules batch) (foretells setting.slots setting.mode (set_after rules batch) [] acts) (any_refused setting backs (set_after rules batch) [] acts)
+    (foretold-alone setting backs (set_after rules batch) [] acts none.1)
+
+-- ---- the status that is decided
+
+abbrev decided_by : ScriptEnd → Bool → Status
+decided_by last refused = elim last [
+  | Whole ↦ elim refused [ true ↦ Refused | false ↦ Done ]
+  | FaultAt line text ↦ ScriptFault
+]
+
+fault-decided : (last : ScriptEnd) (refused : Bool) → last ≢ Whole → decided_by last refused ≢ Done
+fault-decided Whole refused other = λ e. other refl
+fault-decided (FaultAt line text) refused other = λ e. let bad : ScriptFault ≡ Done = e in cc
+
+refused-decided : (last : ScriptEnd) (refused : Bool) → refused ≡ true → decided_by last refused ≢ Done
+refused-decided Whole true is = λ e. let bad : Refused ≡ Done = e in cc
+refused-decided Whole false is = λ e. let bad : false ≡ true = is in cc
+refused-decided (FaultAt line text) refused is = λ e. let bad : ScriptFault ≡ Done = e in cc
+
+taken-decided : (last : ScriptEnd) (refused : Bool) → last ≡ Whole → refused ≡ false → decided_by last refused ≡ Done
+taken-decided Whole true whole is = let bad : true ≡ false = is in absurd (cc)
+taken-decided Whole false whole is = refl
+taken-decided (FaultAt line text) refused whole is = let bad : FaultAt line text ≡ Whole = whole in absurd (cc)
+
+-- a line at fault is found by each run
+pub wrong-by-fault : (setting : Setting) (backs : List Bool) (script : Script) → script.last ≢ Whole → decided setting backs script ≢ Done
+wrong-by-fault setting backs script fault = fault-decided script.last (any_refused setting backs [] [] (acts_of script)) fault
+
+-- and so is a refusal that is foretold
+pub wrong-by-refusal : (setting : Setting) (backs : List Bool) (script : Script) → foretells setting.slots setting.mode [] [] (acts_of script) ≡ true → decided setting backs script ≢ Done
+wrong-by-refusal setting backs script told =
+    refused-decided script.last (any_refused setting backs [] [] (acts_of script)) (foretold-comes setting backs [] [] (acts_of script) told)
+
+-- a script without either, and without trials, is carried out whole
+pub right-decided : (setting : Setting) (backs : List Bool) (script : Script) → script.last ≡ Whole → foretells setting.slots setting.mode [] [] (acts_of script) ≡ false
+    → AllByRecursion IsNoTrial (acts_of script) → decided setting backs script ≡ Done
+right-decided setting backs script whole none trials =
+    taken-decided script.last (any_refused setting backs [] [] (acts_of script)) whole (sym (foretold-alone setting backs [] [] (acts_of script) trials) ∙ none)

@@ -1,0 +1,183 @@
+//! The options that each command takes.
+
+ghost use Rattle.std.specs.Prelude.{◌<◌};
+
+use option_words::{mode_named, number_of, placement_of};
+
+/// The commands of the program, by their options.
+#[derive(Clone, Copy, Debug, PartialEq, Eq)]
+pub(crate) enum Subcommand {
+    Route,
+    Acl,
+    Router,
+    Gen,
+    Verify,
+    Draw,
+    Import,
+}
+
+/// The options that some command has.
+#[derive(Clone, Copy, Debug, PartialEq, Eq)]
+pub(crate) enum Name {
+    Slots,
+    Ranges,
+    Placement,
+    Trace,
+    Depth,
+    Json,
+    Commit,
+    Commits,
+    Occupancy,
+    Version,
+    LeaveOut,
+    Help,
+}
+
+/// How many options there are.
+pub(crate) const NAMES: usize = 12;
+
+/// The command that a word names.
+pub(crate) fn subcommand_named(word: &str) -> Option<Subcommand> {
+    match word {
+        "route" | "route6" => Some(Subcommand::Route),
+        "acl" | "acl6" => Some(Subcommand::Acl),
+        "router" | "router6" => Some(Subcommand::Router),
+        "gen" => Some(Subcommand::Gen),
+        "verify" => Some(Subcommand::Verify),
+        "draw" => Some(Subcommand::Draw),
+        "import" => Some(Subcommand::Import),
+        _ => None,
+    }
+}
+
+/// The option that a word names, if some command has one.
+pub(crate) fn option_named(word: &str) -> Option<Name> {
+    match word {
+        "--slots" => Some(Name::Slots),
+        "--ranges" => Some(Name::Ranges),
+        "--placement" => Some(Name::Placement),
+        "--trace" => Some(Name::Trace),
+        "--depth" => Some(Name::Depth),
+        "--json" => Some(Name::Json),
+        "--commit" => Some(Name::Commit),
+        "--commits" => Some(Name::Commits),
+        "--occupancy" => Some(Name::Occupancy),
+        "--version" => Some(Name::Version),
+        "--leave-out" => Some(Name::LeaveOut),
+        "--help" | "-h" => Some(Name::Help),
+        _ => None,
+    }
+}
+
+/// Whether a command has an option.
+pub(crate) fn has_option(subcommand: Subcommand, name: Name) -> bool {
+    match name {
+        Name::Help => true,
+        Name::Slots | Name::Placement => matches!(
+            subcommand,
+            Subcommand::Route | Subcommand::Acl | Subcommand::Router | Subcommand::Gen
+        ),
+        Name::Ranges => matches!(
+            subcommand,
+            Subcommand::Acl | Subcommand::Router | Subcommand::Gen
+        ),
+        Name::Trace => matches!(
+            subcommand,
+            Subcommand::Route | Subcommand::Acl | Subcommand::Router
+        ),
+        Name::Depth | Name::Json => matches!(subcommand, Subcommand::Route | Subcommand::Acl),
+        Name::Commit | Name::Commits | Name::Occupancy => subcommand == Subcommand::Draw,
+        Name::Version | Name::LeaveOut => subcommand == Subcommand::Import,
+    }
+}
+
+/// The options of a command, as a sentence has them.
+pub(crate) fn options_text(subcommand: Subcommand) -> &'static str {
+    match subcommand {
+        Subcommand::Route => "--slots, --placement, --trace, --depth and --json",
+        Subcommand::Acl => "--slots, --ranges, --placement, --trace, --depth and --json",
+        Subcommand::Router => "--slots, --ranges, --placement and --trace",
+        Subcommand::Gen => "--slots, --ranges and --placement",
+        Subcommand::Verify => "no option",
+        Subcommand::Draw => "--commit, --commits and --occupancy",
+        Subcommand::Import => "--version and --leave-out",
+    }
+}
+
+/// What may stand behind an option, as a sentence has it; none where nothing may.
+pub(crate) fn values_text(name: Name) -> Option<&'static str> {
+    match name {
+        Name::Slots => Some("1 to 4096"),
+        Name::Ranges => Some("cover or bits"),
+        Name::Placement => Some("middle, rank or ends"),
+        Name::Depth => Some("0 to 15"),
+        Name::Commit => Some("a number from 1"),
+        Name::Commits => Some("two numbers from 1, as 2-5"),
+        Name::Version => Some("4 or 6"),
+        Name::Trace | Name::Json | Name::Occupancy | Name::LeaveOut | Name::Help => None,
+    }
+}
+
+/// Whether a value may stand behind an option.
+pub(crate) fn is_value(name: Name, value: &str) -> bool {
+    match name {
+        Name::Slots => number_of(value, 1, 4096).is_some(),
+        Name::Ranges => mode_named(value).is_some(),
+        Name::Placement => placement_of(value).is_some(),
+        Name::Depth => number_of(value, 0, 15).is_some(),
+        Name::Commit => is_commit(value),
+        Name::Commits => are_commits(value),
+        Name::Version => matches!(value, "4" | "6"),
+        Name::Trace | Name::Json | Name::Occupancy | Name::LeaveOut | Name::Help => false,
+    }
+}
+
+/// Whether a value is the number of a commit.
+fn is_commit(value: &str) -> bool {
+    number_of(value, 1, u32::MAX).is_some()
+}
+
+/// Whether a value is two numbers of commits, the second no less.
+fn are_commits(value: &str) -> bool {
+    match value.split_once('-') {
+        Some((first, last)) => match (number_of(first, 1, u32::MAX), number_of(last, 1, u32::MAX)) {
+            (Some(first), Some(last)) => first <= last,
+            _ => false,
+        },
+        None => false,
+    }
+}
+
+/// The place of an option among all.
+pub(crate) fn place_of(name: Name) -> usize
+    ensures { result < NAMES }
+{
+    match name {
+        Name::Slots => 0,
+        Name::Ranges => 1,
+        Name::Placement => 2,
+        Name::Trace => 3,
+        Name::Depth => 4,
+        Name::Json => 5,
+        Name::Commit => 6,
+        Name::Commits => 7,
+        Name::Occupancy => 8,
+        Name::Help => 9,
+        Name::Version => 10,
+        Name::LeaveOut => 11,
+    }
+}
+
+/// An option whose name is like a word, if there is one.
+pub(crate) fn option_like(word: &str) -> Option<&'static str> {
+    match word {
+        "--slot" | "--size" | "-s" => Some("--slots"),
+        "--range" | "--bits" | "--cover" | "-r" => Some("--ranges"),
+        "--place" | "--placements" | "-p" => Some("--placement"),
+        "--traces" | "--verbose" | "-v" | "-t" => Some("--trace"),
+        "--depths" | "-d" => Some("--depth"),
+        "--JSON" | "-j" => Some("--json"),
+        "-help" | "-?" => Some("--help"),
+        _ => None,
+    }
+}
