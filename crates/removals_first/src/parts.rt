@@ -35,7 +35,7 @@ fn early_part(alloc: Global, mut ranks: VecDeque<Rank>) -> Result<Batch, AllocEr
 {
     let mut part = Batch::new(alloc);
     while let Some(priority) = ranks.pop_front() {
-        match part.push(Command::Del(priority)) {
+        match part.push_settled(Command::Del(priority)) {
             Ok(()) => {}
             // There is room: the batch that is parted removes each of them.
             Err(_) => return Err(AllocError),
@@ -52,7 +52,7 @@ fn late_part(alloc: Global, batch: &Batch, early: &BTreeSet<Rank>) -> Result<Bat
     for i in 0..batch.len() {
         let command = batch.at(i);
         if stays_late(&command, early) {
-            match part.push(command) {
+            match part.push_settled(command) {
                 Ok(()) => {}
                 // There is room, as the whole batch has some.
                 Err(_) => return Err(AllocError),

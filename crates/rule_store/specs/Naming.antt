@@ -13,7 +13,7 @@ use Rattle.rule_store.specs.declared.pending.Uses.TheVariants.{Removed, Used}
 use Rattle.rule_store.specs.declared.pending.Naming.{Naming}
 use Rattle.rule_store.specs.declared.pending.Naming.TheVariants.{First, Replacing, Repeated}
 use Rattle.rule_store.specs.declared.pending.Named.{Named}
-use Rattle.rule_store.specs.Batch.{ChangesRules, named_priority, commands_naming, is_addition, is_removal, most_pending}
+use Rattle.rule_store.specs.Batch.{ChangesRules, named_priority, commands_naming, is_addition, is_removal, most_commands}
 
 -- how a priority is used, one command later that names it
 abbrev pub uses_with : Option Uses → Command → Uses
@@ -51,10 +51,10 @@ named_fault rules one = fault_by one.naming (is_addition one.command) (named_pri
 abbrev pub commands_of : List Named → List Command
 commands_of named = map (λ one. one.command) named
 
--- There are 4,096 commands at most, each a right one and kept with how it names its priority, and the map has the use of
+-- There are 12,288 commands at most, each a right one and kept with how it names its priority, and the map has the use of
 -- each priority.
 pub record IsIndexed (named : List Named) (uses : BTreeMap ℕ Uses) : Type 0 where
-  pub count : length named ≤ most_pending
+  pub count : length named ≤ most_commands
   pub right : AllByRecursion ChangesRules (commands_of named)
   pub namings : (k : ℕ) (none : Named) → k < length named → (slice_index_or named k none).naming ≡ naming_after (take k (commands_of named)) (slice_index_or named k none).command
   pub used : (priority : ℕ) → get nat_cmp uses priority ≡ uses_of (commands_naming priority (commands_of named))

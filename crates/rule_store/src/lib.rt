@@ -33,7 +33,7 @@ mod stored;
 
 pub use entries::{entries_needed, same_conditions};
 pub use laws::{has_added_and_kept_rules, is_a_set_afterward};
-pub use pending::{Batch, Commands, PushFault};
+pub use pending::{Batch, Commands, PENDING_COMMANDS, PushFault};
 pub use stored::Store;
 
 /// How port ranges are encoded in entries.

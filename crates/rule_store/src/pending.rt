@@ -12,13 +12,16 @@ use std::collections::BTreeMap;
 use std::marker::Model;
 use thiserror::Error;
 
-/// The most commands of a batch (`most_pending` in definitions).
-pub const BATCH_COMMANDS: u32 = 4096;
+/// The most changes that wait for a commit (`most_pending` in definitions).
+pub const PENDING_COMMANDS: u32 = 4096;
+
+/// The most commands of a batch (`most_commands` in definitions).
+pub const BATCH_COMMANDS: u32 = 12288;
 
 /// Why a batch doesn't take a command.
 #[derive(Clone, Copy, Debug, PartialEq, Eq, Error)]
 pub enum PushFault {
-    /// It has 4,096 commands.
+    /// It has as many commands as may wait, or as it may have.
     #[error("batch full")]
     Full,
     /// There is no memory for one more.
@@ -53,7 +56,7 @@ pub(crate) struct Named {
     pub(crate) naming: Naming,
 }
 
-/// Commands in the order in which they came, 4,096 at most.
+/// Commands in the order in which they came: 4,096 that wait for a commit, or 12,288 to which changes were settled.
 #[derive(Drop)]
 pub struct Batch {
     commands: Vec<Named>,
@@ -82,18 +85,18 @@ pub struct Commands {
 impl Model for Commands {
     ghost use Rattle.std.specs.Prelude.{List, ◌≤◌, length};
     ghost use Rattle.rule_store.specs.declared.Command.{Command};
-    ghost use Rattle.rule_store.specs.Batch.{most_pending};
+    ghost use Rattle.rule_store.specs.Batch.{most_commands};
     ghost use Rattle.rule_store.specs.Naming.{commands_of};
 
     ghost Value = { List Command };
 
     ghost view = { λ c. commands_of c.commands.items };
 
-    ghost invariant = { λ c. length c.commands.items ≤ most_pending };
+    ghost invariant = { λ c. length c.commands.items ≤ most_commands };
 }
 
 impl Commands {
-    /// How many there are, 4,096 at most.
+    /// How many there are, 12,288 at most.
     pub(crate) fn len(&self) -> u32
         ensures count { result ≡ length self.now }
         ensures most { result ≤ BATCH_COMMANDS }
@@ -155,9 +158,22 @@ impl Batch {
         }
     }
 
-    /// Puts a command behind the others. `Full` comes exactly at 4,096 commands; after a refusal the batch
-    /// is as before.
+    /// Puts a command behind the others, of those that wait for a commit. `Full` comes exactly from 4,096 commands on; after
+    /// a refusal the batch is as before.
     pub fn push(&mut self, command: Command) -> Result<(), PushFault>
+        ensures pushed { OnOk result (self.new ≡ self.old ++ command ∷ []) }
+        ensures full { (result ≡ Err PushFault.Full) ↔ (PENDING_COMMANDS ≤ length self.old) }
+        ensures same { OnErr result (self.new ≡ self.old) }
+    {
+        if self.commands.len() >= PENDING_COMMANDS as usize {
+            return Err(PushFault::Full);
+        }
+        self.push_settled(command)
+    }
+
+    /// Puts a command behind the others, of those to which changes are settled. `Full` comes exactly at 12,288 commands; after
+    /// a refusal the batch is as before.
+    pub fn push_settled(&mut self, command: Command) -> Result<(), PushFault>
         ensures pushed { OnOk result (self.new ≡ self.old ++ command ∷ []) }
         ensures full { (result ≡ Err PushFault.Full) ↔ (length self.old ≡ BATCH_COMMANDS) }
         ensures same { OnErr result (self.new ≡ self.old) }
@@ -183,7 +199,7 @@ impl Batch {
         Ok(())
     }
 
-    /// How many commands there are, 4,096 at most.
+    /// How many commands there are, 12,288 at most.
     pub fn len(&self) -> u32
         ensures count { result ≡ length self.now }
         ensures most { result ≤ BATCH_COMMANDS }

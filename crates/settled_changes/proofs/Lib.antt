@@ -1,3 +1,4 @@
+pub mod AskedFor
 pub mod At
 pub mod EachKind
 pub mod FirstFault
@@ -5,7 +6,9 @@ pub mod Fits
 pub mod Forgiving
 pub mod FromLast
 pub mod Leads
+pub mod Many
 pub mod NamedSets
 pub mod Naming
+pub mod OverNone
 pub mod Strict
 pub mod Whole

@@ -1,18 +1,17 @@
 -- The batch of strict commands that requests come to over a set.
-use Rattle.std.specs.Prelude.{◌≡◌, ◌<◌, length, ℕ, Bool, not, Option, Some, None, List, [], ◌∷◌, ◌++◌, map, filter, if◌then◌else◌, nat_eq}
+use Rattle.std.specs.Prelude.{◌≡◌, ℕ, Bool, not, Option, Some, None, List, [], ◌∷◌, ◌++◌, map, filter, if◌then◌else◌, nat_eq}
 use Rattle.rule_model.specs.declared.Rule.{Rule}
 use Rattle.rule_model.specs.RuleSet.{rule_at, has_priority}
 use Rattle.rule_model.specs.Piece.{same_piece, whole_piece}
 use Rattle.rule_store.specs.declared.Command.{Command}
 use Rattle.rule_store.specs.declared.Command.TheVariants.{Add, Set, Del}
 use Rattle.rule_store.specs.declared.Mode.{Mode}
-use Rattle.rule_store.specs.Batch.{most_pending}
 use Rattle.rule_store.specs.Verdict.{Verdict, room_verdict, verdict_by}
 use Rattle.settled_changes.specs.declared.Request.{Request}
 use Rattle.settled_changes.specs.declared.Request.TheVariants.{Strict, Put, Drop}
 use Rattle.settled_changes.specs.declared.SettleFault.{SettleFault}
-use Rattle.settled_changes.specs.declared.SettleFault.TheVariants.{Unsound, Full, Memory}
-use Rattle.settled_changes.specs.Requests.{AreTaken, is_asked, requests_fault}
+use Rattle.settled_changes.specs.declared.SettleFault.TheVariants.{Unsound, Memory}
+use Rattle.settled_changes.specs.Requests.{is_asked, requests_fault}
 
 -- two rules have the same conditions
 abbrev pub same_conditions : Rule → Rule → Bool
@@ -68,8 +67,11 @@ change_where rules (Strict command) is_last = command ∷ []
 change_where rules (Put rule) is_last = if is_last then put_change (rule_at rules rule.priority) rule else []
 change_where rules (Drop priority) is_last = if is_last then drop_change (rule_at rules priority) priority else []
 
--- why requests come to no batch: the fault of one, or more commands than a batch has room for
+-- why requests come to no batch: the fault of one, or want of memory; a batch has room for all that they come to
 abbrev pub IsWhyUnsettled : List Rule → List Request → SettleFault → Type 0
 IsWhyUnsettled rules requests (Unsound fault) = requests_fault rules requests ≡ Some fault
-IsWhyUnsettled rules requests Full = AreTaken rules requests × (most_pending < length (settled rules requests))
 IsWhyUnsettled rules requests Memory = Unit {0}
+
+-- why requests make no set of no rules at all: one of them fails over none, or want of memory
+abbrev pub IsWhyNoSet : List Request → SettleFault → Type 0
+IsWhyNoSet requests fault = IsWhyUnsettled [] requests fault

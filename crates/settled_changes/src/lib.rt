@@ -1,8 +1,9 @@
 //! Changes that don't ask what is there: a rule is to stand, or to go, whether it was there or not.
 //!
 //! A [`Request`] is a strict command, or one of these. [`Requests`] are settled over a set into a batch of strict commands
-//! ([`settle`]), the least that leads where they say; this batch is judged and carried out as any other. So nothing that
-//! speaks of batches knows of requests. A whole new set is settled likewise ([`settle_whole`]).
+//! that leads where they say ([`settle`]): strict ones as they are, and for the others the fewest that do. This batch is
+//! judged and carried out as any other, so nothing that speaks of batches knows of requests. A whole new set is settled
+//! likewise ([`settle_whole`]), and so is what requests make of no rules ([`settle_all`]).
 //!
 //! # Decided
 //! - **Of several forgiving requests for one rule the last counts**, as where they were made one after the other. A daemon
@@ -15,8 +16,10 @@
 //!   was taken back, or who restarts, settles the same ones again.
 //! - **A whole new set is a [`Store`]**, since that is a set by its type: a list of rules may name a priority twice, and
 //!   whoever makes a set of it decides what that means.
-//! - **A batch has room for 4,096 commands**, and requests may come to twice as many, since a rule whose conditions change
-//!   takes two. So `Full` is an answer, and it comes exactly there.
+//! - **A batch has room for 12,288 commands**, though no more than 4,096 changes wait for a commit: two for each request,
+//!   since a rule whose conditions change takes two, and one for each of 4,096 rules that a whole new set lacks. So nothing
+//!   that a table of 4,096 slots is asked for is too long, and no [`SettleFault`] says so. [`settle_whole`] takes sets of any
+//!   size, and answers `Full` where they need more.
 #![tactic(auto)]
 
 use rule_model::{Rank, Rule};
@@ -26,15 +29,17 @@ use thiserror::Error;
 mod changes;
 mod faults;
 mod laws;
+mod requested;
 mod requests;
 mod settling;
 
 pub use laws::{
-    changes_only_what_differs, gives_the_whole_set, is_settled_once, keeps_strict_batches,
-    leads_where_asked, makes_the_least_change,
+    accepted_leads_where_asked, changes_only_what_differs, gives_the_whole_set, is_settled_once,
+    keeps_strict_batches, leads_where_asked, makes_the_least_change,
 };
+pub use requested::Requested;
 pub use requests::Requests;
-pub use settling::{settle, settle_whole};
+pub use settling::{settle, settle_all, settle_whole};
 
 /// One change that is asked for.
 #[derive(Clone, Copy, Debug, PartialEq, Eq)]
@@ -69,9 +74,6 @@ pub enum SettleFault {
     /// This request is the first that the set doesn't take, by the priority that it names.
     #[error("a request can't be carried out: {0}")]
     Unsound(BatchFault),
-    /// They come to more than 4,096 commands.
-    #[error("batch full")]
-    Full,
     /// Want of memory.
     #[error("out of memory")]
     Memory,

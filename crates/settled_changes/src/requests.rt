@@ -1,14 +1,11 @@
 //! Requests that wait to be settled.
 
-ghost use Rattle.std.specs.Prelude.{◌≡◌, ◌↔◌, ◌<◌, ◌≤◌, [], ◌∷◌, ◌++◌, Err, Some, IsTrue, length, OnOk, OnErr, slice_get};
+ghost use Rattle.std.specs.Prelude.{◌≡◌, ◌↔◌, ◌<◌, ◌≤◌, [], ◌∷◌, ◌++◌, Err, Some, IfOk, IsTrue, length, map, OnOk, OnErr, slice_get};
 
 use crate::Request;
-use rule_store::{Command, PushFault};
-use std::alloc::Global;
+use rule_store::{Batch, Command, PENDING_COMMANDS, PushFault};
+use std::alloc::{AllocError, Global};
 use std::marker::Model;
-
-/// The most requests that are settled together (`most_pending` in definitions).
-const MOST_REQUESTS: u32 = 4096;
 
 /// Requests in the order in which they came, 4,096 at most.
 #[derive(Drop)]
@@ -44,13 +41,29 @@ impl Requests {
         }
     }
 
+    /// Strict commands as requests, in their order: 4,096 of them at most. With no more it fails only for want of memory.
+    pub fn of_batch(alloc: Global, batch: &Batch) -> Result<Requests, AllocError>
+        ensures { IfOk result (λ requests. requests ≡ map Request.Strict batch.now) }
+    {
+        let mut requests = Requests::new(alloc);
+        for i in 0..batch.len() {
+            let command = batch.at(i);
+            match requests.push(Request::Strict(command)) {
+                Ok(()) => {}
+                // There is no room for them: there are more commands than may wait, as only a settled batch has.
+                Err(_) => return Err(AllocError),
+            }
+        }
+        Ok(requests)
+    }
+
     /// Puts a request behind the others. `Full` comes exactly at 4,096 requests; after a refusal they are as before.
     pub fn push(&mut self, request: Request) -> Result<(), PushFault>
         ensures pushed { OnOk result (self.new ≡ self.old ++ request ∷ []) }
-        ensures full { (result ≡ Err PushFault.Full) ↔ (length self.old ≡ MOST_REQUESTS) }
+        ensures full { (result ≡ Err PushFault.Full) ↔ (PENDING_COMMANDS ≤ length self.old) }
         ensures same { OnErr result (self.new ≡ self.old) }
     {
-        if self.requests.len() >= MOST_REQUESTS as usize {
+        if self.requests.len() >= PENDING_COMMANDS as usize {
             return Err(PushFault::Full);
         }
         let _named = no_command();
@@ -64,7 +77,7 @@ impl Requests {
     /// How many requests there are, 4,096 at most.
     pub fn len(&self) -> u32
         ensures count { result ≡ length self.now }
-        ensures most { result ≤ MOST_REQUESTS }
+        ensures most { result ≤ PENDING_COMMANDS }
     {
         self.requests.len() as u32
     }

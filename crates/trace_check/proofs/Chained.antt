@@ -1,7 +1,7 @@
 -- The commits of a trace follow one another, and every write of it is one of theirs.
 use Rattle.std.proofs.Common.{◌≡◌, ℕ, ◌+◌, Bool, true, false, List, [], ◌∷◌, ◌++◌, Option, None, Some, refl, sym, ap, ◌∙◌, subst, append_assoc}
 use Rattle.std.specs.Prelude.{flat_map, nat_eq, nat_lt}
-use Rattle.rule_store.specs.Batch.{set_after, most_pending}
+use Rattle.rule_store.specs.Batch.{set_after, most_commands}
 use Rattle.tcam_device.specs.declared.Write.{Write}
 use Rattle.tcam_device.specs.declared.Write.TheVariants as write
 use Rattle.tcam_device.specs.State.{State, apply, state_after}
@@ -87,7 +87,7 @@ record IsCommand (place next : Place) (now : Tracing) : Type 0 where
 commands : (slots : ℕ) (place next : Place) (now : Tracing) → place_by slots place Changes ≡ Some next → Stands place now → IsCommand place next now
 commands slots AtStart next now there stands = absurd stands
 commands slots (Between m) next now there stands = absurd (cc)
-commands slots (InBatch m k) next now there stands = record { commit = m; count = k; place_is = refl; next_is = only (nat_lt k most_pending) (InBatch m (k + 1)) next there }
+commands slots (InBatch m k) next now there stands = record { commit = m; count = k; place_is = refl; next_is = only (nat_lt k most_commands) (InBatch m (k + 1)) next there }
 commands slots (InEvents m) next now there stands = absurd (cc)
 commands slots AtEnd next now there stands = absurd (cc)
 

@@ -9,7 +9,7 @@ use Rattle.rule_store.specs.declared.Mode.{Mode}
 use Rattle.rule_store.specs.declared.Mode.TheVariants.{Cover, Bits}
 use Rattle.rule_store.specs.declared.Command.{Command}
 use Rattle.rule_store.specs.declared.Command.TheVariants as change
-use Rattle.rule_store.specs.Batch.{most_pending}
+use Rattle.rule_store.specs.Batch.{most_commands}
 use Rattle.rule_store.specs.Verdict.{Accepted, verdict}
 use Rattle.tcam_device.specs.declared.Write.{Write}
 use Rattle.tcam_device.specs.State.{State, IsState, blank, apply}
@@ -98,7 +98,7 @@ command_at : (slots : ℕ) (place next : Place) (trace : Trace) → place_by slo
     → (n : ℕ) × (k : ℕ) × (next ≡ InBatch n (k + 1)) × IsRightAt (InBatch n k) trace
 command_at slots AtStart next trace there right = absurd (cc)
 command_at slots (Between m) next trace there right = absurd (cc)
-command_at slots (InBatch m k) next trace there right = (m, k, (only (nat_lt k most_pending) (InBatch m (k + 1)) next there).0, right)
+command_at slots (InBatch m k) next trace there right = (m, k, (only (nat_lt k most_commands) (InBatch m (k + 1)) next there).0, right)
 command_at slots (InEvents m) next trace there right = absurd (cc)
 command_at slots AtEnd next trace there right = absurd (cc)
 

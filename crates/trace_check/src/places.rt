@@ -6,8 +6,8 @@ ghost use Rattle.trace_check.specs.Places.{place_after};
 
 use trace_file::TraceLine;
 
-/// The most commands of a commit (`most_pending` in definitions).
-const MOST_COMMANDS: u32 = 4_096;
+/// The most commands of a commit (`most_commands` in definitions).
+const MOST_COMMANDS: u32 = 12_288;
 
 /// Where a trace is after some lines.
 #[derive(Clone, Copy, Debug, PartialEq, Eq)]
@@ -60,7 +60,7 @@ fn behind_commits(commits: u32, line: &TraceLine) -> Option<Place>
     }
 }
 
-/// Behind the commands of a commit come more of them, up to 4,096, or its events, or it is done.
+/// Behind the commands of a commit come more of them, up to 12,288, or its events, or it is done.
 fn behind_command(slots: u32, commit: u32, commands: u32, line: &TraceLine) -> Option<Place>
     ensures { result ≡ place_after slots (Place.InBatch commit commands) line.now }
 {

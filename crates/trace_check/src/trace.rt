@@ -173,7 +173,7 @@ impl Trace {
         ensures pushed { OnOk result (self.new ≡ record self.old { batch = self.old.batch ++ command ∷ [] }) }
         ensures fault { IfErr result (λ fault. fault ≡ CheckFault.Memory) }
     {
-        match self.batch.push(command) {
+        match self.batch.push_settled(command) {
             Ok(()) => Ok(()),
             Err(_) => Err(CheckFault::Memory),
         }

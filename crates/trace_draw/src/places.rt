@@ -3,7 +3,7 @@
 use trace_file::TraceLine;
 
 /// The most commands of a commit.
-const MOST_COMMANDS: u32 = 4_096;
+const MOST_COMMANDS: u32 = 12_288;
 
 /// Where a trace is after some lines.
 #[derive(Clone, Copy, Debug, PartialEq, Eq)]
@@ -49,7 +49,7 @@ fn behind_commits(commits: u32, line: &TraceLine) -> Option<Place> {
     }
 }
 
-/// Behind the commands of a commit come more of them, up to 4,096, or its events, or it is done.
+/// Behind the commands of a commit come more of them, up to 12,288, or its events, or it is done.
 fn behind_command(slots: u32, commit: u32, commands: u32, line: &TraceLine) -> Option<Place> {
     match line {
         TraceLine::Add(_) | TraceLine::Set(_, _) | TraceLine::Del(_) => {

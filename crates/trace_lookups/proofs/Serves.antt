@@ -11,7 +11,7 @@ use Rattle.rule_model.specs.declared.words.Entry.{Entry}
 use Rattle.rule_model.specs.Entry.{RankedPiece}
 use Rattle.rule_store.specs.declared.Command.{Command}
 use Rattle.rule_store.specs.declared.Command.TheVariants as change
-use Rattle.rule_store.specs.Batch.{set_after, most_pending}
+use Rattle.rule_store.specs.Batch.{set_after, most_commands}
 use Rattle.rule_store.specs.Verdict.{Accepted, verdict, coded_ranges}
 use Rattle.range_bits.proofs.Given.{kept_ranges-parts}
 use Rattle.tcam_device.specs.declared.Action.{Action}
@@ -336,7 +336,7 @@ command_serves : (now : Tracing) (command : Command) (place next : Place) (lines
 command_serves now command AtStart next lines last there known on = absurd known
 command_serves now command (Between m) next lines last there known on = absurd (cc)
 command_serves now command (InBatch m k) next lines last there known on =
-    (m, k, refl, subst (λ p. Serves p (with_command now command) lines last) (only (nat_lt k most_pending) (InBatch m (k + 1)) next there) on)
+    (m, k, refl, subst (λ p. Serves p (with_command now command) lines last) (only (nat_lt k most_commands) (InBatch m (k + 1)) next there) on)
 command_serves now command (InEvents m) next lines last there known on = absurd (cc)
 command_serves now command AtEnd next lines last there known on = absurd (cc)
 
