@@ -100,7 +100,7 @@ enum tcam_error {
     TCAM_HOST_BITS = 7,     /* a bit of the address past the length is set */
     TCAM_PORTS = 8,         /* a range ends before it begins */
     TCAM_PROTOCOL = 9,      /* past TCAM_ANY_PROTOCOL */
-    TCAM_BATCH_FULL = 10,   /* the batch has 4,096 changes, or comes to more */
+    TCAM_BATCH_FULL = 10,   /* the batch has 4,096 changes */
     TCAM_MEMORY = 11,       /* want of memory */
     TCAM_BUSY = 12,         /* a commit is under way */
     TCAM_TWICE = 13,        /* an earlier change of the batch names the rule */
@@ -504,9 +504,8 @@ static inline enum tcam_error tcam_clear(struct tcam_manager *manager) {
  *
  * A batch with changes by tcam_put_ or tcam_drop_ comes to strict ones over the rules, which are judged in its place.
  * None of these is refused for what is there: TCAM_TWICE comes of one for a rule that a strict one names too, at the
- * later of the two, and of the strict ones TCAM_TWICE, TCAM_TAKEN and TCAM_ABSENT as without them. TCAM_BATCH_FULL
- * comes where more than 4,096 strict changes are needed, two for each rule that gets other conditions, and
- * TCAM_MEMORY may come before any of these but TCAM_BUSY. After a refusal the batch has the changes put in. */
+ * later of the two, and of the strict ones TCAM_TWICE, TCAM_TAKEN and TCAM_ABSENT as without them. TCAM_MEMORY may
+ * come before any of these but TCAM_BUSY. After a refusal the batch has the changes put in. */
 static inline enum tcam_error tcam_prepare(struct tcam_manager *manager, struct tcam_numbers *numbers,
                                            struct tcam_refusal *refusal) {
     return manager && numbers && refusal ? (enum tcam_error)tcam_c_prepare(manager, numbers, refusal) : TCAM_NULL;
@@ -516,10 +515,10 @@ static inline enum tcam_error tcam_prepare(struct tcam_manager *manager, struct 
  * at all, so what it adds or puts, and no other. Rules that aren't among them go, those that stand so already stay
  * untouched, and others get another result or are replaced; a batch without changes takes every rule out. It answers
  * TCAM_BUSY; TCAM_TWICE and TCAM_ABSENT by its changes in their order, as over no rules: where a strict one names a
- * rule that is named, or changes or removes one; TCAM_BATCH_FULL where more than 4,096 strict changes are needed; and
- * else as tcam_prepare, with TCAM_MEMORY before any of these but TCAM_BUSY. Until they are gone the old entries take
- * their slots and bits beside the new ones. A driver that is restarted in such a commit puts each rule of the new set
- * in by tcam_put_, and by tcam_drop_ each saved one that it lacks. */
+ * rule that is named, or changes or removes one; and else as tcam_prepare, with TCAM_MEMORY before any of these but
+ * TCAM_BUSY. Until they are gone the old entries take their slots and bits beside the new ones. A driver that is
+ * restarted in such a commit puts each rule of the new set in by tcam_put_, and by tcam_drop_ each saved one that it
+ * lacks. */
 static inline enum tcam_error tcam_prepare_all(struct tcam_manager *manager, struct tcam_numbers *numbers,
                                                struct tcam_refusal *refusal) {
     return manager && numbers && refusal ? (enum tcam_error)tcam_c_prepare_all(manager, numbers, refusal) : TCAM_NULL;
@@ -662,9 +661,9 @@ static inline enum tcam_error tcam_restart_word(struct tcam_manager *manager, en
  * nothing is told any more, and tcam_abort answers TCAM_RESTARTED until the last tcam_made. Changes by tcam_put_ and
  * tcam_drop_ come to strict ones over the rules that were told, so to the same ones as before the stop. Else it
  * answers TCAM_BESIDE, TCAM_NO_RESTART, TCAM_USED; where the rules alone refuse the batch what tcam_prepare would,
- * with the refusal, but for TCAM_BATCH_FULL, with which nothing is written; TCAM_STAGE, with the fault; or
- * TCAM_MEMORY, which may come before it. Then all stays as it was, what was told too: the memory may be repaired, told
- * of, and the call made again. Look-ups that were under way at the stop are gone. */
+ * with the refusal; TCAM_STAGE, with the fault; or TCAM_MEMORY, which may come before it. Then all stays as it was,
+ * what was told too: the memory may be repaired, told of, and the call made again. Look-ups that were under way at the
+ * stop are gone. */
 static inline enum tcam_error tcam_restart(struct tcam_manager *manager, uint64_t *left, struct tcam_refusal *refusal,
                                            struct tcam_restart_fault *fault) {
     return manager && left && refusal && fault ? (enum tcam_error)tcam_c_restart(manager, left, refusal, fault)

@@ -1,20 +1,18 @@
 -- What follows of a manager from what its calls say of it, and what they leave.
-use Rattle.std.proofs.Common.{◌≡◌, ℕ, ◌+◌, ◌≤◌, List, [], ◌++◌, length, Option, Some, None, refl, sym, ap, subst, ◌∙◌, append-nil, arith}
-use Rattle.tcam_device.specs.declared.Write.{Write}
+use Rattle.std.proofs.Common.{◌≡◌, ℕ, ◌≤◌, List, [], ◌++◌, length, Option, Some, None, refl, sym, ap, subst, ◌∙◌, append-nil, arith}
 use Rattle.tcam_device.specs.declared.Action.{Action}
 use Rattle.tcam_device.specs.Flight.{writes_in}
-use Rattle.tcam_device.specs.View.{DeviceView, HasMade, journal}
+use Rattle.tcam_device.specs.View.{DeviceView, HasMade}
 use Rattle.rule_store.specs.declared.Command.{Command}
 use Rattle.commit_writes.specs.declared.Done.{Done}
-use Rattle.commit_writes.proofs.WritesIn.{writes_of_map, writes_in-append}
+use Rattle.commit_writes.proofs.WritesIn.{writes_in-append}
 use Rattle.batch_order.specs.declared.Step.{Step}
-use Rattle.batch_order.specs.Managed.{Managed, HeldCommit, Holds, actions_due, room_both_ways, room_needed, writes_due}
+use Rattle.batch_order.specs.Managed.{Managed, HeldCommit, Holds, room_both_ways}
 use Rattle.batch_order.specs.Steps.{Steps, actions_of}
-use Rattle.batch_order.specs.CarriedOut.{GoesForward, HasRoomBothWays, HasRoomLeft, actions_left, finished_of, writes_left}
+use Rattle.batch_order.specs.CarriedOut.{GoesForward, HasRoomBothWays, HasRoomLeft, actions_left, finished_of}
 use Rattle.batch_order.specs.Laws.{CarryingEnds, CarryingTakesRules, StepLeaves, StepsLeave, TurnsLeave, WaysBackGoBack}
 use Rattle.batch_order.proofs.back.Aborted.{enough_left, keeps_on}
 use Rattle.batch_order.proofs.back.Passed.{goes_back}
-use Rattle.batch_order.proofs.under_way.Onward.{due_back, due_on}
 use Rattle.batch_order.proofs.under_way.Stepped.{both_after, forward_after, room_after, same_slots}
 
 pub ways_back_go_back : WaysBackGoBack
@@ -41,7 +39,7 @@ turns_leave old new result did =
 -- more room is room
 more_left : (held : Option HeldCommit) (spare spare' : ℕ) → spare ≤ spare' → HasRoomLeft held spare → HasRoomLeft held spare'
 more_left None spare spare' least room = tt
-more_left (Some one) spare spare' least room = let enough : room_needed one ≤ spare = room in let needed : room_needed one ≤ spare' = omega arith in needed
+more_left (Some one) spare spare' least room = let enough : length one.actions ≤ spare = room in let needed : length one.actions ≤ spare' = omega arith in needed
 
 more_both : (held : Option HeldCommit) (spare spare' : ℕ) → spare ≤ spare' → HasRoomBothWays held spare → HasRoomBothWays held spare'
 more_both None spare spare' least room = tt
@@ -52,7 +50,7 @@ more_both (Some one) spare spare' least room =
 pub one_way : (held : Option HeldCommit) (spare : ℕ) → HasRoomBothWays held spare → HasRoomLeft held spare
 one_way None spare room = tt
 one_way (Some one) spare room =
-    let less = enough_left one in let enough : room_both_ways one ≤ spare = room in let needed : room_needed one ≤ spare = omega arith in needed
+    let less = enough_left one in let enough : room_both_ways one ≤ spare = room in let needed : length one.actions ≤ spare = omega arith in needed
 
 -- where nothing was done, and no room went
 pub same_leaves : (old new : Managed) (spare spare' : ℕ) → new ≡ old → spare ≤ spare' → StepLeaves old new spare spare'
@@ -87,18 +85,6 @@ pub carrying_takes_rules : CarryingTakesRules
 carrying_takes_rules was old new batch counts holds done =
     ap (λ (m : Managed). m.rules) done ∙ ap (λ (m : Managed). (finished_of m.held m).rules) holds.new_is
 
--- the writes that are left are those of the actions
-writes_are : (held : Option HeldCommit) → writes_in (actions_left held) ≡ writes_left held
-writes_are None = refl
-writes_are (Some one) = go one.turned refl
-  where
-    go : (turned : Option ℕ) → one.turned ≡ turned → writes_in (actions_due one) ≡ writes_due one
-    go None is =
-        ap writes_in (due_on one is) ∙ sym (ap (λ (t : Option ℕ). elim t [ None ↦ writes_in one.actions | Some undone ↦ one.undo ]) is)
-    go (Some undone) is =
-        ap writes_in (due_back one undone is) ∙ writes_of_map one.undo
-        ∙ sym (ap (λ (t : Option ℕ). elim t [ None ↦ writes_in one.actions | Some undone ↦ one.undo ]) is)
-
 pub carrying_ends : CarryingEnds
 carrying_ends old new before after carried none =
     let left : actions_left new ≡ [] = ap actions_left none in
@@ -108,6 +94,6 @@ carrying_ends old new before after carried none =
     let spent = carried.spare in
     record {
       events = events;
-      journal = ap writes_in events ∙ (writes_in-append before.events (actions_left old) ∙ ap (λ (ws : List Write). journal before ++ ws) (writes_are old));
+      journal = ap writes_in events ∙ writes_in-append before.events (actions_left old);
       spare = omega arith;
     }

@@ -3,6 +3,7 @@ pub mod Begun
 pub mod Carried
 pub mod Drains
 pub mod OnWay
+pub mod Ways
 pub mod Left
 pub mod Stepped
 pub mod Onward

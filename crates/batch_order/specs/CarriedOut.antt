@@ -1,5 +1,5 @@
 -- What carries a commit under way to its end, and where it stops.
-use Rattle.std.specs.Prelude.{◌≡◌, ℕ, ◌+◌, ◌*◌, ◌-◌, ◌^◌, ◌<◌, ◌≤◌, ◌++◌, min, IsTrue, IsSome, Result, Ok, Err, Option, Some, None, IfSome, List, [], ◌∷◌, length, take, drop, fold}
+use Rattle.std.specs.Prelude.{◌≡◌, ℕ, ◌+◌, ◌*◌, ◌-◌, ◌^◌, ◌<◌, ◌≤◌, ◌++◌, min, IsTrue, IsSome, false, Result, Ok, Err, Option, Some, None, IfSome, List, [], length, take, drop, fold}
 use Rattle.rule_model.specs.declared.Rule.{Rule}
 use Rattle.tcam_device.specs.declared.Write.{Write}
 use Rattle.tcam_device.specs.declared.Action.{Action}
@@ -11,25 +11,24 @@ use Rattle.tcam_device.specs.View.{DeviceView}
 use Rattle.tcam_device.specs.Insertion.{is_table_write}
 use Rattle.commit_writes.specs.declared.Done.{Done}
 use Rattle.commit_writes.specs.Bits.{FieldBits}
-use Rattle.commit_writes.specs.Undo.{restoring}
 use Rattle.batch_order.specs.declared.Unfinished.{Unfinished}
 use Rattle.batch_order.specs.declared.Unfinished.TheVariants as unfinished
-use Rattle.batch_order.specs.Managed.{Managed, HeldCommit, actions_due, room_needed, room_both_ways, writes_due}
-use Rattle.batch_order.specs.Steps.{awaits_drain, current_back, next_of}
+use Rattle.batch_order.specs.Managed.{Managed, HeldCommit, room_both_ways}
+use Rattle.batch_order.specs.Managed.Way.{Back}
+use Rattle.batch_order.specs.Steps.{awaits_drain, current_by, is_back, next_of, way_by}
 
--- the writes that are left to make, forward or back
-abbrev pub writes_left : Option HeldCommit → List Write
-writes_left None = []
-writes_left (Some held) = writes_due held
-
--- and the actions
+-- the actions that are left to make, on or back
 abbrev pub actions_left : Option HeldCommit → List Action
 actions_left None = []
-actions_left (Some held) = actions_due held
+actions_left (Some held) = held.actions
+
+-- and the writes
+abbrev pub writes_left : Option HeldCommit → List Write
+writes_left held = writes_in (actions_left held)
 
 -- a device with so much room has it for them
 abbrev pub HasRoomLeft : Option HeldCommit → ℕ → Type 0
-HasRoomLeft held spare = IfSome held (λ one. room_needed one ≤ spare)
+HasRoomLeft held spare = IfSome held (λ one. length one.actions ≤ spare)
 
 -- and also where the commit is turned round
 abbrev pub HasRoomBothWays : Option HeldCommit → ℕ → Type 0
@@ -37,7 +36,7 @@ HasRoomBothWays held spare = IfSome held (λ one. room_both_ways one ≤ spare)
 
 -- a commit under way, if there is one, isn't turned round
 abbrev pub GoesForward : Option HeldCommit → Type 0
-GoesForward held = IfSome held (λ one. one.turned ≡ None)
+GoesForward held = IfSome held (λ one. is_back one.way ≡ false)
 
 -- the rules that the commit under way leads to, if there is one, and else the manager's
 abbrev pub ahead_of : Option HeldCommit → List Rule → List Rule
@@ -77,32 +76,18 @@ pub record IsServed (device_slots : ℕ) (before after : List Write) (old new : 
   pub since : after ≡ before ++ written
   pub during : (n : ℕ) → ShowsOldOrNew (state_after (replay device_slots before) (take n written)) old new
 
--- The manager after an action of the commit under way, forward: the writes that were made are kept as those that undo
--- them, and with the drain the new ranges count.
-abbrev pub forward_by : Managed → HeldCommit → Action → Managed
-forward_by old held (Written write) =
+-- The manager after an action of the commit under way, on or back: on, what undoes a write is kept. With the drain the new
+-- ranges count, and with a table word those before the commit.
+abbrev pub acted_on : Managed → HeldCommit → Action → Managed
+acted_on old held (Written write) =
     record old {
       state = apply old.state write;
-      held = Some (record held { actions = drop 1 held.actions; undo = restoring old.state write ∷ held.undo });
+      held = Some (record held { actions = drop 1 held.actions; way = way_by old.state write held.way; current = current_by old.bits held.current (is_table_write write) });
     }
-forward_by old held Drained =
-    record old { held = Some (record held { actions = drop 1 held.actions; current = held.during }) }
-
--- and back
-abbrev pub back_by : Managed → HeldCommit → Action → Managed
-back_by old held (Written write) =
-    record old {
-      state = apply old.state write;
-      held = Some (record held { undo = drop 1 held.undo; current = current_back old.bits held.current (is_table_write write) });
-    }
-back_by old held Drained = old
+acted_on old held Drained = record old { held = Some (record held { actions = drop 1 held.actions; current = held.during }) }
 
 abbrev pub acted_by : Managed → Action → Managed
-acted_by old action =
-    elim old.held [
-      | None ↦ old
-      | Some held ↦ elim held.turned [ None ↦ forward_by old held action | Some undone ↦ back_by old held action ]
-    ]
+acted_by old action = elim old.held [ None ↦ old | Some held ↦ acted_on old held action ]
 
 -- and after some actions
 abbrev pub acted : Managed → List Action → Managed
@@ -123,7 +108,7 @@ pub record StopsAt (old new : Managed) (before after : List Write) (left : ℕ) 
   pub under_way : old.held ≡ Some held
   pub made : List Action
   pub rest : List Action
-  pub parts : made ++ rest ≡ actions_due held
+  pub parts : made ++ rest ≡ held.actions
   pub rest_is : actions_left new.held ≡ rest
   pub left_is : left ≡ length (writes_left new.held)
   pub new_is : new ≡ acted old made
@@ -134,9 +119,9 @@ pub record StopsAt (old new : Managed) (before after : List Write) (left : ℕ) 
 pub record Reverts (old new : Managed) (before after : List Write) (undone : ℕ) : Type 0 where
   pub held : HeldCommit
   pub under_way : old.held ≡ Some held
-  pub turned : held.turned ≡ Some undone
-  pub new_is : new ≡ record old { state = state_after old.state held.undo; held = None }
-  pub journal : after ≡ before ++ held.undo
+  pub turned : held.way ≡ Back undone
+  pub new_is : new ≡ record old { state = state_after old.state (writes_in held.actions); held = None }
+  pub journal : after ≡ before ++ writes_in held.actions
 
 -- Why a commit hasn't finished: its next write failed, its drain waits for the words in flight, or it was taken back.
 abbrev pub StopsBy : Managed → Managed → List Write → List Write → ℕ → Unfinished → Type 0

@@ -1,5 +1,5 @@
 -- What holds of a manager between its calls.
-use Rattle.std.specs.Prelude.{◌≡◌, ℕ, ◌≤◌, ◌-◌, ◌⊎◌, ◌++◌, Bool, true, false, ◌&&◌, IsTrue, IsFalse, IsSome, Option, Some, None, List, length, take, drop, nat_eq, nat_lt}
+use Rattle.std.specs.Prelude.{◌≡◌, ℕ, ◌≤◌, ◌-◌, ◌⊎◌, ◌++◌, Bool, true, false, ◌&&◌, IsTrue, IsFalse, IsSome, Option, Some, None, List, length, map, take, drop, nat_eq, nat_lt}
 use Rattle.std.specs.List.{AllByRecursion, IsDistinct}
 use Rattle.slot_pool.specs.Arrangement.{Slots}
 use Rattle.rule_model.specs.declared.Rule.{Rule}
@@ -15,6 +15,8 @@ use Rattle.rule_store.specs.Verdict.{entries_of}
 use Rattle.placement.specs.declared.LivePiece.{LivePiece}
 use Rattle.placement.specs.Live.{is_live}
 use Rattle.tcam_device.specs.State.{State, IsState, IsInUse, blank, state_after, on_device}
+use Rattle.tcam_device.specs.declared.Action.{Action}
+use Rattle.tcam_device.specs.declared.Action.TheVariants.{Written}
 use Rattle.tcam_device.specs.declared.Write.{Write}
 use Rattle.tcam_device.specs.Hitless.{ShowsOldOrNew}
 use Rattle.tcam_device.specs.Insertion.{is_table_write}
@@ -35,7 +37,8 @@ use Rattle.batch_order.specs.declared.translation.Translation.{Translation}
 use Rattle.batch_order.specs.ByParts.{longest_parts}
 use Rattle.batch_order.specs.Entries.{AreLast, Entries}
 use Rattle.batch_order.specs.Planning.{IsSettled, as_writes, all_writes}
-use Rattle.batch_order.specs.Managed.{HeldCommit}
+use Rattle.batch_order.specs.Managed.{HeldCommit, Way}
+use Rattle.batch_order.specs.Managed.Way.{On, Back}
 
 -- What a manager keeps of its device's translation: by covers nothing, and by bits the live ranges and both tables.
 abbrev pub mode_of : Option Translation → Mode
@@ -88,18 +91,27 @@ settled_state translation entries slots = with_slots (tables_of translation) (co
 abbrev pub current_of : Option Translation → Held → FieldBits
 current_of translation held = elim held.drained [ true ↦ during_of held.bits | false ↦ bits_of translation ]
 
--- how many of its writes stood when it was turned round, and else how many stand
-abbrev pub most_made : Held → ℕ
-most_made held = elim held.turned [ None ↦ held.made | Some undone ↦ undone ]
+-- the way of a commit, with so many undo writes once it is turned round, and these undo writes now
+abbrev pub way_of : Option ℕ → List Write → Way
+way_of None undo = On undo
+way_of (Some undone) undo = Back undone
+
+-- what is left of it: these writes with the drain where it is still to come, and once it is turned round the undo writes
+abbrev pub course_of : Option ℕ → Bool → List Write → List Write → List Action
+course_of None awaits writes undo = with_drain awaits writes
+course_of (Some undone) awaits writes undo = map Written undo
+
+-- the undo writes of those of its writes that stand
+abbrev pub undo_left : Option Translation → Slots → List (Option Entry) → Held → List Write
+undo_left translation slots entries held = undo_writes (settled_state translation entries slots) (take held.made (held_writes entries held))
 
 -- the commit under way, as callers see it
 abbrev pub held_of : Option Translation → Slots → List Rule → List (Option Entry) → Held → HeldCommit
 held_of translation slots rules entries held =
     record {
       prepared = held.prepared;
-      actions = with_drain held.awaits (drop (most_made held) (held_writes entries held));
-      undo = undo_writes (settled_state translation entries slots) (take held.made (held_writes entries held));
-      turned = held.turned;
+      actions = course_of held.turned held.awaits (drop held.made (held_writes entries held)) (undo_left translation slots entries held);
+      way = way_of held.turned (undo_left translation slots entries held);
       counts = held.counts;
       rules = set_after rules held.batch;
       during = during_of held.bits;

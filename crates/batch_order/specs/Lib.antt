@@ -1,4 +1,5 @@
 pub mod Entries
+pub mod Arranged
 pub mod Planning
 pub mod Placing
 pub mod Managed

@@ -1,5 +1,5 @@
 -- What a manager keeps, and how it judges a batch.
-use Rattle.std.specs.Prelude.{◌≡◌, ℕ, ◌+◌, ◌≤◌, ◌^◌, ◌⊎◌, Bool, true, false, Result, Ok, Err, IsOk, Option, Some, None, List, [], length, map, take}
+use Rattle.std.specs.Prelude.{◌≡◌, ℕ, ◌+◌, ◌≤◌, ◌^◌, ◌⊎◌, Bool, true, false, Result, Ok, Err, IsOk, Option, Some, None, List, [], length, take}
 use Rattle.std.specs.List.{AllByRecursion, list_any}
 use Rattle.rule_model.specs.declared.Rule.{Rule}
 use Rattle.rule_model.specs.declared.IpVersion.{IpVersion}
@@ -10,7 +10,6 @@ use Rattle.rule_store.specs.Batch.{additions, set_after}
 use Rattle.rule_store.specs.Verdict.{verdict}
 use Rattle.tcam_device.specs.declared.Write.{Write}
 use Rattle.tcam_device.specs.declared.Action.{Action}
-use Rattle.tcam_device.specs.declared.Action.TheVariants.{Written}
 use Rattle.tcam_device.specs.State.{State, IsInUse, Shows, blank, blank_table, replay, on_device, state_after}
 use Rattle.tcam_device.specs.Flight.{writes_in}
 use Rattle.tcam_device.specs.Hitless.{ShowsOldOrNew}
@@ -32,23 +31,27 @@ use Rattle.batch_order.specs.declared.Refusal.{Refusal}
 use Rattle.batch_order.specs.declared.Refusal.TheVariants as refusal
 use Rattle.batch_order.specs.Placing.{IsPlacedBy}
 
+-- A commit goes on, with the undo writes of those that were made, the next one first. Or it is turned round and goes back, by
+-- so many undo writes in all.
+pub data Way : Type 0 where
+  On : (undo : List Write) → Way
+  Back : (undone : ℕ) → Way
+
 -- A commit under way.
 pub record HeldCommit : Type 0 where
   -- whether it was planned from the set's arrangement, and not by a restart
   pub prepared : Bool
-  -- the writes still to make, and the drain where it is still to come
+  -- the actions still to make, on or back: its writes, and the drain where it is still to come, or the undo writes
   pub actions : List Action
-  -- the undo writes of those that were made, the next one first
-  pub undo : List Write
-  -- once it is turned round, how many undo writes there were
-  pub turned : Option ℕ
-  -- its numbers, and the set that it leads to
+  pub way : Way
+  -- its numbers
   pub counts : Done
+  -- the new set, by which keys may be answered meanwhile, and which it leads to unless it is turned round
   pub rules : List Rule
-  -- the ranges that are live while it is made, and those that are when it has finished
+  -- the ranges that are live while it is made, those that are when it has finished, and those that the words in flight are
+  -- current for now
   pub during : FieldBits
   pub bits : FieldBits
-  -- those that the words in flight are current for now
   pub current : FieldBits
 
 -- a manager: the slots in use, the encoding of port ranges, where insertions aim, the rules of the set and their live
@@ -81,25 +84,13 @@ Serves state rules (Some held) = ShowsOldOrNew state rules held.rules
 abbrev pub live_now : Managed → FieldBits
 live_now manager = elim manager.held [ None ↦ manager.bits | Some held ↦ held.current ]
 
--- the writes that a commit under way has still to make, forward or back
-abbrev pub writes_due : HeldCommit → List Write
-writes_due held = elim held.turned [ None ↦ writes_in held.actions | Some undone ↦ held.undo ]
+-- how many writes and drains a commit under way may make yet, if it is turned round at the worst moment
+abbrev pub room_by_way : List Action → Way → ℕ
+room_by_way actions (On undo) = length actions + (length (writes_in actions) + length undo)
+room_by_way actions (Back undone) = length actions
 
--- the actions that it has still to make, forward or back
-abbrev pub actions_due : HeldCommit → List Action
-actions_due held = elim held.turned [ None ↦ held.actions | Some undone ↦ map Written held.undo ]
-
--- how many writes and drains it has still to make
-abbrev pub room_needed : HeldCommit → ℕ
-room_needed held = elim held.turned [ None ↦ length held.actions | Some undone ↦ length held.undo ]
-
--- and how many it may make yet, if it is turned round at the worst moment
 abbrev pub room_both_ways : HeldCommit → ℕ
-room_both_ways held =
-    elim held.turned [
-      | None ↦ length held.actions + (length (writes_in held.actions) + length held.undo)
-      | Some undone ↦ length held.undo
-    ]
+room_both_ways held = room_by_way held.actions held.way
 
 -- what an idle manager answers by the judgement: an accepted batch may want memory, and nothing else
 abbrev pub Answers : Result (Unit {0}) Rejection → Result Done Refusal → Type 0
@@ -108,7 +99,7 @@ Answers (Err rejection) result = result ≡ Err (refusal.Rejected rejection)
 
 -- what a manager answers to a batch: busy where a commit is under way, forward or back, and else by the verdict
 abbrev pub Judges : Managed → Option HeldCommit → List Command → Result Done Refusal → Type 0
-Judges manager (Some held) batch result = result ≡ Err (refusal.Busy (length (writes_due held)))
+Judges manager (Some held) batch result = result ≡ Err (refusal.Busy (length (writes_in held.actions)))
 Judges manager None batch result = Answers (judgement (verdict manager.slots manager.mode manager.rules batch)) result
 
 -- the batch changes routes: each rule that it adds is a route of this version
@@ -121,8 +112,7 @@ commit_of old batch made counts =
     record {
       prepared = true;
       actions = commit_actions old.mode old.bits old.rules batch made;
-      undo = [];
-      turned = None;
+      way = On [];
       counts = counts;
       rules = set_after old.rules batch;
       during = bits_with old.mode old.rules batch old.bits;

@@ -6,6 +6,7 @@ use Rattle.commit_writes.specs.Undo.{undo_writes}
 use Rattle.batch_order.specs.declared.Step.{Step}
 use Rattle.batch_order.specs.Managed.{Managed}
 use Rattle.batch_order.specs.Steps.{Steps}
+use Rattle.batch_order.specs.Turning.{undo_of}
 
 -- some writes led from the state in which a commit began to this one, and these undo them
 pub record HasWayBack (begun state : State) (undo : List Write) : Type 0 where
@@ -15,7 +16,7 @@ pub record HasWayBack (begun state : State) (undo : List Write) : Type 0 where
 
 -- the commit under way, if there is one, has its way back
 abbrev pub WayBackFrom : State → Managed → Type 0
-WayBackFrom begun manager = IfSome manager.held (λ held. HasWayBack begun manager.state held.undo)
+WayBackFrom begun manager = IfSome manager.held (λ held. HasWayBack begun manager.state (undo_of held))
 
 -- after so many undo writes the device is where some first of the commit's writes had left it
 abbrev pub PassesBack : State → State → List Write → ℕ → Type 0
@@ -40,4 +41,4 @@ pub record GoesBack (begun state : State) (undo : List Write) : Type 0 where
 
 -- so the way back of the commit under way does, if there is one
 abbrev pub GoesBackFrom : State → Managed → Type 0
-GoesBackFrom begun manager = IfSome manager.held (λ held. GoesBack begun manager.state held.undo)
+GoesBackFrom begun manager = IfSome manager.held (λ held. GoesBack begun manager.state (undo_of held))

@@ -15,11 +15,13 @@ use Rattle.placement.specs.declared.Aim.TheVariants as aim
 use Rattle.placement.specs.Placement.{Aiming, rank_slot}
 use Rattle.tcam_device.specs.declared.Write.{Write}
 use Rattle.tcam_device.specs.State.{State, state_after}
+use Rattle.commit_writes.specs.Proposal.{Proposal, proposal}
 use Rattle.commit_writes.specs.declared.Rewrite.{Rewrite}
 use Rattle.commit_writes.specs.Bits.{FieldBits, bits_with, new_bits}
 use Rattle.commit_writes.specs.Shape.{bit_writes, inserted_pieces}
 use Rattle.commit_writes.specs.Planned.{IdEntries, Planned, contents}
 use Rattle.commit_writes.specs.PlannedBatch.{IsPlannedBatch, batch_writes}
+use Rattle.readback.specs.Halt.{halt_at, parts_as_planned}
 use Rattle.readback.specs.Tasks.{Task}
 use Rattle.readback.specs.PlannedRest.{restart_writes}
 use Rattle.readback.specs.Restart.{IsPlannedRestart}
@@ -97,7 +99,7 @@ pub record IsPlacedBy (placement : Placement) (mode : Mode) (bits : FieldBits) (
   pub rewrites : List Rewrite
   pub erased : List ℕ
   pub stands : state.slots ≡ contents entries arrangement
-  pub commit : IsPlannedBatch mode (bits_with mode rules batch bits) (state_after state (words_of mode bits rules batch state)) rules batch live arrangement entries planned rewrites erased
+  pub commit : IsPlannedBatch (proposal mode (bits_with mode rules batch bits) rules batch) (state_after state (words_of mode bits rules batch state)) live arrangement entries planned rewrites erased
   pub aims : map (λ insertion. insertion.aiming) planned ≡ aims_of placement mode (length arrangement) rules (inserted_pieces mode (bits_with mode rules batch bits) rules batch)
   pub writes_are : made ≡ words_of mode bits rules batch state ++ batch_writes entries arrangement planned rewrites erased
 
@@ -108,13 +110,13 @@ aims_left placement mode bits slots rules batch done =
 
 -- The writes of a restart are those of a planned one whose insertions have the aims that the commit's have by the placement:
 -- the old set's entries and all that the commit inserts share the slots, whatever stands already.
-pub record IsRestPlacedBy (placement : Placement) (device_slots : ℕ) (mode : Mode) (bits : FieldBits) (rules : List Rule) (batch : List Command) (state : State) (done left : List Task) (twin : Option ℕ) (made : List Write) : Type 0 where
+pub record IsRestPlacedBy (placement : Placement) (device_slots : ℕ) (asked : Proposal) (state : State) (done left : List Task) (twin : Option ℕ) (made : List Write) : Type 0 where
   pub live : List LivePiece
   pub arrangement : Slots
   pub entries : IdEntries
   pub planned : List Planned
   pub rewrites : List Rewrite
   pub erased : List ℕ
-  pub restart : IsPlannedRestart device_slots mode bits rules batch state done left twin live arrangement entries planned rewrites erased
-  pub aims : map (λ insertion. insertion.aiming) planned ≡ aims_left placement mode bits (length arrangement) rules batch done
-  pub writes_are : made ≡ restart_writes mode bits rules batch state twin entries arrangement planned rewrites erased
+  pub restart : IsPlannedRestart device_slots asked state (halt_at done left twin) live arrangement entries (parts_as_planned planned rewrites erased)
+  pub aims : map (λ insertion. insertion.aiming) planned ≡ aims_left placement asked.mode asked.bits (length arrangement) asked.rules asked.batch done
+  pub writes_are : made ≡ restart_writes asked state twin entries arrangement planned rewrites erased

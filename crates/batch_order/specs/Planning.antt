@@ -15,6 +15,7 @@ use Rattle.tcam_device.specs.State.{IsInUse}
 use Rattle.commit_writes.specs.declared.Rewrite.{Rewrite}
 use Rattle.commit_writes.specs.PlannedBatch.{erase_write, rewrite_write}
 use Rattle.commit_writes.specs.Planned.{IdEntries, Planned, ArePlanned, ranked_of, live_after, slots_after, write_for, entry_at}
+use Rattle.batch_order.specs.Arranged.{Arranged}
 use Rattle.batch_order.specs.declared.plan.Plan.{Plan}
 use Rattle.batch_order.specs.declared.planned_writes.PlannedWrite.{PlannedWrite}
 use Rattle.batch_order.specs.declared.planned_writes.PlannedWrites.{PlannedWrites}
@@ -110,14 +111,14 @@ pub record ArePlannedSince (old new : Entries) (slots slots' : Slots) (plan plan
 
 -- All writes of a commit were planned: insertions of some pieces with these aims, behind them the new entry of each id that
 -- gets one, and last the erase of each id that goes.
-pub record AreAllPlanned (old new : Entries) (slots slots' : Slots) (plan plan' : Plan) (pieces : List RankedPiece) (aims : List Aiming)
+pub record AreAllPlanned (before after : Arranged) (plan plan' : Plan) (pieces : List RankedPiece) (aims : List Aiming)
     (rewrites : List Rewrite) (erased : List ℕ) : Type 0 where
   pub between : Plan
-  pub inserted : ArePlannedSince old new slots slots' plan between pieces aims
-  pub settled : IsSettled new slots'
-  pub within : AllByRecursion (IsWithin (length slots')) (all_writes plan'.writes)
+  pub inserted : ArePlannedSince before.kept after.kept before.slots after.slots plan between pieces aims
+  pub settled : IsSettled after.kept after.slots
+  pub within : AllByRecursion (IsWithin (length after.slots)) (all_writes plan'.writes)
   pub writes : (entries : IdEntries) → as_writes entries rewrites (all_writes plan'.writes)
-      ≡ as_writes entries rewrites (all_writes between.writes) ++ (map (rewrite_write slots') rewrites ++ map (erase_write slots') erased)
+      ≡ as_writes entries rewrites (all_writes between.writes) ++ (map (rewrite_write after.slots) rewrites ++ map (erase_write after.slots) erased)
   pub words : plan'.words ≡ between.words
   pub most : plan'.most ≡ between.most
   pub span : plan'.span ≡ between.span

@@ -1,5 +1,5 @@
 -- What a restarted manager holds, what a refused restart answers, and what a manager leaves of itself.
-use Rattle.std.specs.Prelude.{◌≡◌, ℕ, ◌≤◌, ◌^◌, Bool, true, false, ◌&&◌, Result, Ok, Err, Option, Some, None, List, [], length, take}
+use Rattle.std.specs.Prelude.{◌≡◌, ℕ, ◌≤◌, ◌^◌, Bool, true, false, ◌&&◌, Result, Ok, Err, Option, Some, List, [], length, take}
 use Rattle.std.specs.List.{AllByRecursion, list_any}
 use Rattle.rule_model.specs.declared.Rule.{Rule}
 use Rattle.rule_model.specs.declared.IpVersion.{IpVersion}
@@ -10,6 +10,7 @@ use Rattle.rule_store.specs.Verdict.{Accepted, verdict}
 use Rattle.tcam_device.specs.declared.Write.{Write}
 use Rattle.tcam_device.specs.State.{State, IsInUse, on_device}
 use Rattle.tcam_device.specs.Insertion.{IsUncrossed}
+use Rattle.commit_writes.specs.Proposal.{proposal}
 use Rattle.commit_writes.specs.declared.Done.{Done}
 use Rattle.commit_writes.specs.Actions.{have_bits, with_drain}
 use Rattle.commit_writes.specs.Bits.{FieldBits, bits_with, bits_left, new_bits}
@@ -26,6 +27,7 @@ use Rattle.batch_order.specs.declared.Placement.{Placement}
 use Rattle.batch_order.specs.declared.restarting.fault.RestartFault.{RestartFault}
 use Rattle.batch_order.specs.declared.restarting.fault.RestartFault.TheVariants.{Refused, Stage}
 use Rattle.batch_order.specs.Managed.{Managed, HeldCommit, OnlyChangesRoutes}
+use Rattle.batch_order.specs.Managed.Way.{On}
 use Rattle.batch_order.specs.Placing.{IsRestPlacedBy}
 
 -- the live ranges that were handed in
@@ -54,8 +56,7 @@ rest_of mode bits rules batch state made counts =
     record {
       prepared = false;
       actions = with_drain (needs_drain mode bits rules batch state) made;
-      undo = [];
-      turned = None;
+      way = On [];
       counts = counts;
       rules = set_after rules batch;
       during = during;
@@ -88,7 +89,7 @@ pub record Resumes (slots : ℕ) (mode : Mode) (placement : Placement) (parts : 
   -- hitless after every write, and within the bounds on insertions
   pub goes_on : GoesOn slots mode (bits_in parts) parts.rules.rules batch state left twin made
   -- its insertions are those of the placement, each with its aim
-  pub placed : IsRestPlacedBy placement device_slots mode (bits_in parts) parts.rules.rules batch (in_use slots state) done left twin made
+  pub placed : IsRestPlacedBy placement device_slots (proposal mode (bits_in parts) parts.rules.rules batch) (in_use slots state) done left twin made
   pub numbers : AreRestCounts mode (bits_in parts) parts.rules.rules batch state left twin made counts
   -- of routes no insertion crosses others, and none takes more writes than a prefix may have lengths
   pub uncrossed : (version : IpVersion) → AllByRecursion (IsRoute version) parts.rules.rules → OnlyChangesRoutes version batch

@@ -12,11 +12,13 @@ use Rattle.rule_model.specs.Entry.{IsEncodable}
 use Rattle.placement.specs.Live.{is_live}
 use Rattle.placement.specs.Insertion.{IsLive}
 use Rattle.tcam_device.specs.State.{State, IsState, state_after}
+use Rattle.commit_writes.specs.Proposal.{Proposal}
 use Rattle.commit_writes.specs.declared.Done.{Done}
 use Rattle.commit_writes.specs.Bits.{FieldBits, bits_with}
 use Rattle.commit_writes.specs.Planned.{contents, live_after, slots_after}
 use Rattle.commit_writes.specs.PlannedBatch.{AreNumbersOf, erased_slots}
 use Rattle.commit_writes.specs.Changes.{coded_by, during_of}
+use Rattle.readback.specs.Halt.{halt_at}
 use Rattle.readback.specs.declared.staging.Shown.{Shown}
 use Rattle.readback.specs.Found.{IsShown}
 use Rattle.readback.specs.Going.{twin_writes}
@@ -24,6 +26,7 @@ use Rattle.readback.specs.Laws.{CanCommit}
 use Rattle.readback.specs.Stage.{Finds, IsCommitAt}
 use Rattle.readback.specs.Tasks.{Task, commit_pieces, known_pieces}
 use Rattle.readback.specs.Standing.{AreReadIds}
+use Rattle.batch_order.specs.Arranged.{Arranged, left_changes}
 use Rattle.batch_order.specs.declared.Placement.{Placement}
 use Rattle.batch_order.specs.declared.held.Held.{Held}
 use Rattle.batch_order.specs.declared.plan.Plan.{Plan}
@@ -93,24 +96,24 @@ held_from rest awaits drained batch slots undo = record {
 
 -- All that is left is planned, from the tasks that are done on, each insertion with its aim: the new ids are live, and the
 -- slots are arranged as they will stand.
-pub record IsPlannedOn (placement : Placement) (device_slots : ℕ) (mode : Mode) (bits : FieldBits) (rules : List Rule) (batch : List Command) (state : State) (shown : Shown) (old new : Entries) (slots slots' : Slots) (rest : Rest) : Type 0 where
+pub record IsPlannedOn (placement : Placement) (device_slots : ℕ) (asked : Proposal) (state : State) (shown : Shown) (before after : Arranged) (rest : Rest) : Type 0 where
   pub done : List Task
   pub left : List Task
-  pub stage : IsCommitAt (length slots) mode bits rules batch state done left
-  pub plan : IsRestPlan device_slots mode bits rules batch (in_use (length slots) state) done left shown.stage.twin old new slots rest.plan
-      (aims_left placement mode bits (length slots) rules batch done) rest.left.rewrites.items rest.left.erased.items
-  pub numbers : AreNumbersOf (as_writes new.entries rest.left.rewrites.items (all_writes rest.plan.writes)) plan.planned (counts_of rest.plan)
-  pub coded : coded_by rest.bits ≡ mode
-  pub during : during_of rest.bits ≡ bits_with mode rules batch bits
-  pub adds : AddsIds old new rest.ids.items
-  pub live : new.live ≡ live_after old.live plan.planned
-  pub kept : KeepEntries old.live old.entries new.entries
-  pub arranged : slots' ≡ erased_slots (slots_after slots plan.planned) rest.left.erased.items
-  pub settled : IsSettled (changed_by new rest.left.rewrites.items rest.left.erased.items) slots'
-  pub within : AllByRecursion (IsWithin (length slots)) (all_writes rest.plan.writes)
+  pub stage : IsCommitAt (length before.slots) asked.mode asked.bits asked.rules asked.batch state done left
+  pub plan : IsRestPlan device_slots asked (in_use (length before.slots) state) (halt_at done left shown.stage.twin) before after.kept rest.plan
+      (aims_left placement asked.mode asked.bits (length before.slots) asked.rules asked.batch done) (left_changes rest.left.rewrites.items rest.left.erased.items)
+  pub numbers : AreNumbersOf (as_writes after.kept.entries rest.left.rewrites.items (all_writes rest.plan.writes)) plan.planned (counts_of rest.plan)
+  pub coded : coded_by rest.bits ≡ asked.mode
+  pub during : during_of rest.bits ≡ bits_with asked.mode asked.rules asked.batch asked.bits
+  pub adds : AddsIds before.kept after.kept rest.ids.items
+  pub live : after.kept.live ≡ live_after before.kept.live plan.planned
+  pub kept : KeepEntries before.kept.live before.kept.entries after.kept.entries
+  pub arranged : after.slots ≡ erased_slots (slots_after before.slots plan.planned) rest.left.erased.items
+  pub settled : IsSettled (changed_by after.kept rest.left.rewrites.items rest.left.erased.items) after.slots
+  pub within : AllByRecursion (IsWithin (length before.slots)) (all_writes rest.plan.writes)
   -- what it rewrites and erases are live ids, each erased once
-  pub changed : AllByRecursion (λ rewrite. IsTrue (is_live new.live rewrite.id)) rest.left.rewrites.items
-  pub gone : AllByRecursion (λ id. IsTrue (is_live new.live id)) rest.left.erased.items
+  pub changed : AllByRecursion (λ rewrite. IsTrue (is_live after.kept.live rewrite.id)) rest.left.rewrites.items
+  pub gone : AllByRecursion (λ id. IsTrue (is_live after.kept.live id)) rest.left.erased.items
   pub once : IsDistinct nat_eq rest.left.erased.items
   pub few_planned : length plan.planned ≤ most_slots
   pub few_rewritten : length rest.left.rewrites.items ≤ most_slots

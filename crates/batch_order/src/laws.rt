@@ -3,11 +3,16 @@
 ghost use Rattle.batch_order.specs.Laws.{CarryingEnds, CarryingTakesRules, JournalsGrow, StepsLeave, TurnsLeave, WaysBackGoBack};
 ghost use Rattle.batch_order.specs.RestPlan.{PlansRest};
 ghost use Rattle.batch_order.specs.Passed.{GoesBackThroughStates};
-ghost use Rattle.batch_order.specs.Turning.{RevertsToTheOldState, StepsKeepTheWayBack};
+ghost use Rattle.batch_order.specs.Turning.{RevertsToTheOldState, StepsKeepTheWayBack, WritesLeaveCurrent};
 
 /// A step of a commit that doesn't end it keeps the state that its undo writes lead to.
 pub fn steps_keep_the_way_back()
     ensures { StepsKeepTheWayBack }
+{}
+
+/// On the way on a write leaves the ranges that words in flight are current for as they are.
+pub fn writes_leave_current()
+    ensures { WritesLeaveCurrent }
 {}
 
 /// Where a commit has been taken back the device holds what it held before, and rules and live ranges are the old ones.

@@ -90,7 +90,7 @@
 //!   device that grows slow, is given up without a look-up that sees anything but the old or the new answer: the way
 //!   back passes the states that the commit passed (`GoesBackFrom`). `prepare` plans what restores each write, since
 //!   `abort` and `step` take no memory, and reserves twice the writes and a drain; what each would put back stands in
-//!   the view of the commit (`undo`). The price is twice the device's reserve, 16 bytes a write until the commit has
+//!   the view of the commit (`undo_of`). The price is twice the device's reserve, 16 bytes a write until the commit has
 //!   come to its end, and while a plan is made a pass over the slots, 16 bytes a slot, and a copy of the tables where
 //!   it writes words. On the way back no drain is made, and the new bits count as new only until a table word is
 //!   undone: words in flight may lack them again. One limit: the states of `GoesBackFrom` are those of some writes that

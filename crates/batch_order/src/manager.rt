@@ -5,13 +5,14 @@ ghost use Rattle.std.specs.List.{AllByRecursion};
 ghost use Rattle.call_history.specs.Cause.{HasCause};
 ghost use Rattle.tcam_device.specs.declared.Write.{Write};
 ghost use Rattle.tcam_device.specs.State.{Shows, State, apply, on_device};
+ghost use Rattle.tcam_device.specs.Flight.{writes_in};
 ghost use Rattle.tcam_device.specs.Hitless.{ShowsOldOrNew};
 ghost use Rattle.tcam_device.specs.View.{HasMade, IsSameButSpare, IsUntouched, device_state, journal};
 ghost use Rattle.rule_store.specs.Verdict.{entries_of, slots_verdict, verdict, Accepted};
 ghost use Rattle.rule_store.specs.Batch.{ChangesRules, batch_fault};
 ghost use Rattle.commit_writes.specs.Changes.{coded_by, during_of};
 ghost use Rattle.readback.specs.Judged.{judgement};
-ghost use Rattle.batch_order.specs.Managed.{Managed, Judges, Holds, IsOn, Serves, fresh, live_now, writes_due};
+ghost use Rattle.batch_order.specs.Managed.{Managed, Judges, Holds, IsOn, Serves, fresh, live_now};
 ghost use Rattle.batch_order.specs.Steps.{Aborts, KeepsCurrent, ServesNow, Steps, actions_of, next_of};
 ghost use Rattle.batch_order.specs.Turning.{IsHeldRight};
 ghost use Rattle.batch_order.specs.Passed.{WayBackFrom};
@@ -117,6 +118,7 @@ impl Manager {
     /// answer of the old rules or that of the new ones.
     pub fn rules(&self) -> &Store
         ensures rules { result.now.rules ≡ self.now.rules }
+        ensures few { length self.now.rules ≤ MOST_SLOTS }
         ensures answers { self.now.held ≡ None → (device_slots : ℕ) → self.now.slots ≤ device_slots
             → Shows (on_device device_slots self.now.state) self.now.rules }
         ensures on_the_way { IfSome self.now.held (λ held. (device_slots : ℕ) → self.now.slots ≤ device_slots
@@ -136,7 +138,7 @@ impl Manager {
     /// How many writes of the commit under way are still to make, forward, or back once it is turned round. None comes
     /// exactly where no commit is under way.
     pub fn left(&self) -> Option<u64>
-        ensures { result ≡ option_map (λ held. length (writes_due held)) self.now.held }
+        ensures { result ≡ option_map (λ held. length (writes_in held.actions)) self.now.held }
     {
         match &self.held {
             None => None,
@@ -239,7 +241,7 @@ impl Manager {
         ensures fits { OnOk result (slots_verdict self.now.slots self.now.mode self.now.rules batch.now ≡ Accepted) }
         ensures short { IfErr result (λ rejection. judgement (slots_verdict self.now.slots self.now.mode self.now.rules batch.now) ≡ Err rejection) }
     {
-        // A batch has 4,096 commands at most, so the number fits.
+        // A batch has 12,288 commands at most, so the number fits.
         let _commands = batch.len();
         let need = self.rules.entries_added(encoding(&self.translation), batch) as u32;
         let free = self.arrangement.free_count();

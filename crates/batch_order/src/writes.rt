@@ -5,6 +5,7 @@ ghost use Rattle.std.specs.List.{AllByRecursion};
 ghost use Rattle.rule_store.specs.Verdict.{entries_of};
 ghost use Rattle.rule_model.specs.Entry.{IsEncodable};
 ghost use Rattle.placement.specs.Live.{is_live};
+ghost use Rattle.batch_order.specs.Arranged.{arranged_at};
 ghost use Rattle.batch_order.specs.Entries.{AddsIds, KeepEntries};
 ghost use Rattle.batch_order.specs.Kept.{mode_of};
 ghost use Rattle.batch_order.specs.Placing.{aims_of};
@@ -52,7 +53,7 @@ pub(crate) fn plan_writes(
     requires few { length parts.now.rewrites.items ≤ MOST_SLOTS }
     requires rewritten { AllByRecursion (λ rewrite. IsTrue (is_live live.old.live rewrite.id)) parts.now.rewrites.items }
     requires erased { AllByRecursion (λ id. IsTrue (is_live live.old.live id)) parts.now.erased.items }
-    ensures planned { OnOk result (AreAllPlanned live.old live.new arrangement.old arrangement.new plan.old plan.new parts.now.inserted.items
+    ensures planned { OnOk result (AreAllPlanned (arranged_at live.old arrangement.old) (arranged_at live.new arrangement.new) plan.old plan.new parts.now.inserted.items
         (aims_of placement (mode_of translation.now) (length arrangement.old) rules.now.rules parts.now.inserted.items) parts.now.rewrites.items parts.now.erased.items) }
     ensures adds { IfOk result (λ planned. AddsIds live.old live.new planned.ids.items) }
     ensures undo { IfOk result (λ planned. AreRestoring translation.now before.now (all_writes plan.new.writes) planned.undo.items) }

@@ -6,6 +6,7 @@ use Rattle.rule_store.specs.declared.Mode.{Mode}
 use Rattle.rule_store.specs.declared.Command.{Command}
 use Rattle.placement.specs.declared.LivePiece.{LivePiece}
 use Rattle.tcam_device.specs.State.{State}
+use Rattle.commit_writes.specs.Proposal.{proposal}
 use Rattle.commit_writes.specs.declared.Rewrite.{Rewrite}
 use Rattle.commit_writes.specs.Bits.{FieldBits}
 use Rattle.commit_writes.specs.Shape.{set_pieces, inserted_pieces}
@@ -18,7 +19,7 @@ use Rattle.commit_writes.proofs.Members.{of_row}
 
 -- before them the set stands, and each piece that is new is one of them
 pub row_of : (mode : Mode) (bits : FieldBits) (state : State) (rules : List Rule) (batch : List Command) (live : List LivePiece) (slots : Slots) (entries : IdEntries) (planned : List Planned) (rewrites : List Rewrite) (erased : List ℕ)
-    → IsPlannedBatch mode bits state rules batch live slots entries planned rewrites erased
+    → IsPlannedBatch (proposal mode bits rules batch) state live slots entries planned rewrites erased
     → IsPlannedRow state (set_pieces mode bits rules) (inserted_pieces mode bits rules batch) live slots entries planned
 row_of mode bits state rules batch live slots entries planned rewrites erased plan = record {
   is_state = plan.is_state;
@@ -34,6 +35,6 @@ row_of mode bits state rules batch live slots entries planned rewrites erased pl
 
 -- the ids after the insertions are theirs
 pub batch_of : (mode : Mode) (bits : FieldBits) (state : State) (rules : List Rule) (batch : List Command) (live : List LivePiece) (slots : Slots) (entries : IdEntries) (planned : List Planned) (rewrites : List Rewrite) (erased : List ℕ)
-    → IsPlannedBatch mode bits state rules batch live slots entries planned rewrites erased → AreOfPieces state (row_pieces mode bits rules batch) (live_after live planned) entries
+    → IsPlannedBatch (proposal mode bits rules batch) state live slots entries planned rewrites erased → AreOfPieces state (row_pieces mode bits rules batch) (live_after live planned) entries
 batch_of mode bits state rules batch live slots entries planned rewrites erased plan =
     of_row state (set_pieces mode bits rules) (inserted_pieces mode bits rules batch) live slots entries planned (row_of mode bits state rules batch live slots entries planned rewrites erased plan)

@@ -15,6 +15,7 @@ use Rattle.rule_store.specs.Batch.{ChangesRules, is_removal, batch_fault, comman
 use Rattle.rule_store.proofs.After.{set_after-set}
 use Rattle.rule_store.proofs.Members.{set_after-member}
 use Rattle.tcam_device.specs.State.{State}
+use Rattle.commit_writes.specs.Proposal.{proposal}
 use Rattle.commit_writes.specs.declared.Rewrite.{Rewrite}
 use Rattle.commit_writes.specs.Bits.{FieldBits}
 use Rattle.commit_writes.specs.Planned.{IdEntries, Planned}
@@ -30,7 +31,7 @@ pub record IsSoundChange (rules : List Rule) (batch : List Command) : Type 0 whe
   pub sound : batch_fault rules batch ≡ None
 
 pub change_of : (mode : Mode) (bits : FieldBits) (state : State) (rules : List Rule) (batch : List Command) (live : List LivePiece) (slots : Slots) (entries : IdEntries) (planned : List Planned) (rewrites : List Rewrite) (erased : List ℕ)
-    → IsPlannedBatch mode bits state rules batch live slots entries planned rewrites erased → IsSoundChange rules batch
+    → IsPlannedBatch (proposal mode bits rules batch) state live slots entries planned rewrites erased → IsSoundChange rules batch
 change_of mode bits state rules batch live slots entries planned rewrites erased plan = record { is_set = plan.is_set; right = plan.right; changes = plan.changes; sound = plan.sound }
 
 -- what is added has right conditions,

@@ -14,6 +14,7 @@ use Rattle.placement.specs.declared.LivePiece.{LivePiece}
 use Rattle.tcam_device.specs.declared.Write.{Write}
 use Rattle.tcam_device.specs.State.{State, state_after}
 use Rattle.tcam_device.specs.Order.{IsOrdered, StandsOnce}
+use Rattle.commit_writes.specs.Proposal.{proposal}
 use Rattle.commit_writes.specs.declared.Rewrite.{Rewrite}
 use Rattle.commit_writes.specs.Bits.{FieldBits}
 use Rattle.commit_writes.specs.Shape.{set_pieces, inserted_pieces}
@@ -46,7 +47,7 @@ pub record IsStage (old new : List RankedPiece) (state : State) (Later : Type 0)
   pub ordered : IsOrdered state (Contains standing)
   pub once : Later → StandsOnce state (Contains standing)
 
-module _ (mode : Mode) (bits : FieldBits) (state : State) (rules : List Rule) (batch : List Command) (live : List LivePiece) (slots : Slots) (entries : IdEntries) (planned : List Planned) (rewrites : List Rewrite) (erased : List ℕ) (plan : IsPlannedBatch mode bits state rules batch live slots entries planned rewrites erased) where
+module _ (mode : Mode) (bits : FieldBits) (state : State) (rules : List Rule) (batch : List Command) (live : List LivePiece) (slots : Slots) (entries : IdEntries) (planned : List Planned) (rewrites : List Rewrite) (erased : List ℕ) (plan : IsPlannedBatch (proposal mode bits rules batch) state live slots entries planned rewrites erased) where
   abbrev old : List RankedPiece
   old = set_pieces mode bits rules
 

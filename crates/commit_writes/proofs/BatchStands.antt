@@ -19,6 +19,7 @@ use Rattle.tcam_device.specs.declared.Write.TheVariants.{Slot}
 use Rattle.tcam_device.specs.State.{State, apply, state_after}
 use Rattle.tcam_device.specs.Insertion.{Insertion, is_new, holds_match, insertions, insertions_from}
 use Rattle.tcam_device.proofs.One.{same_match-same, erases_last}
+use Rattle.commit_writes.specs.Proposal.{proposal}
 use Rattle.commit_writes.specs.declared.Rewrite.{Rewrite}
 use Rattle.commit_writes.specs.Bits.{FieldBits}
 use Rattle.commit_writes.specs.Shape.{set_pieces, inserted_pieces, rewritten_pieces, Stands}
@@ -50,7 +51,7 @@ AreIdRewrites live rewrites = AllByRecursion (λ rewrite. (ranked : RankedPiece)
 abbrev pub AllStand : List LivePiece → Slots → State → Type 0
 AllStand live slots state = (ranked : RankedPiece) (id : ℕ) → IsIdOf live ranked id → Stands state (home_slot slots id) ranked
 
-module _ (mode : Mode) (bits : FieldBits) (state : State) (rules : List Rule) (batch : List Command) (live : List LivePiece) (slots : Slots) (entries : IdEntries) (planned : List Planned) (rewrites : List Rewrite) (erased : List ℕ) (plan : IsPlannedBatch mode bits state rules batch live slots entries planned rewrites erased) where
+module _ (mode : Mode) (bits : FieldBits) (state : State) (rules : List Rule) (batch : List Command) (live : List LivePiece) (slots : Slots) (entries : IdEntries) (planned : List Planned) (rewrites : List Rewrite) (erased : List ℕ) (plan : IsPlannedBatch (proposal mode bits rules batch) state live slots entries planned rewrites erased) where
   abbrev after : Slots
   after = slots_after slots planned
 

@@ -10,6 +10,7 @@ use Rattle.rule_store.specs.Batch.{set_after}
 use Rattle.rule_model.specs.Entry.{RankedPiece, entry_for}
 use Rattle.placement.specs.declared.LivePiece.{LivePiece}
 use Rattle.tcam_device.specs.State.{State, state_after}
+use Rattle.commit_writes.specs.Proposal.{proposal}
 use Rattle.commit_writes.specs.declared.Rewrite.{Rewrite}
 use Rattle.commit_writes.specs.Bits.{FieldBits}
 use Rattle.commit_writes.specs.Shape.{set_pieces, rewritten_pieces}
@@ -34,7 +35,7 @@ LeadTo state entries slots planned rewrites erased =
 
 -- the state after all writes
 pub batch_state : (mode : Mode) (bits : FieldBits) (state : State) (rules : List Rule) (batch : List Command) (live : List LivePiece) (slots : Slots) (entries : IdEntries) (planned : List Planned) (rewrites : List Rewrite) (erased : List ℕ)
-    → IsPlannedBatch mode bits state rules batch live slots entries planned rewrites erased
+    → IsPlannedBatch (proposal mode bits rules batch) state live slots entries planned rewrites erased
     → state_after state (batch_writes entries slots planned rewrites erased)
     ≡ with_slots state (contents (rewritten_entries entries rewrites) (erased_slots (slots_after slots planned) erased))
 batch_state mode bits state rules batch live slots entries planned rewrites erased plan =
@@ -42,7 +43,7 @@ batch_state mode bits state rules batch live slots entries planned rewrites eras
     (subst (λ (some : List Rewrite). LeadTo state entries slots planned some (take (length erased) erased)) (take-length rewrites)
     (late_reached mode bits state rules batch live slots entries planned rewrites erased plan (length rewrites) (length erased)))
 
-module _ (mode : Mode) (bits : FieldBits) (state : State) (rules : List Rule) (batch : List Command) (live : List LivePiece) (slots : Slots) (entries : IdEntries) (planned : List Planned) (rewrites : List Rewrite) (erased : List ℕ) (plan : IsPlannedBatch mode bits state rules batch live slots entries planned rewrites erased) where
+module _ (mode : Mode) (bits : FieldBits) (state : State) (rules : List Rule) (batch : List Command) (live : List LivePiece) (slots : Slots) (entries : IdEntries) (planned : List Planned) (rewrites : List Rewrite) (erased : List ℕ) (plan : IsPlannedBatch (proposal mode bits rules batch) state live slots entries planned rewrites erased) where
   abbrev all : List LivePiece
   all = live_after live planned
 

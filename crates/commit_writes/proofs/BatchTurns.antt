@@ -12,6 +12,7 @@ use Rattle.rule_store.specs.Batch.{set_after}
 use Rattle.rule_model.specs.Entry.{RankedPiece}
 use Rattle.placement.specs.declared.LivePiece.{LivePiece}
 use Rattle.tcam_device.specs.State.{State}
+use Rattle.commit_writes.specs.Proposal.{proposal}
 use Rattle.commit_writes.specs.declared.Rewrite.{Rewrite}
 use Rattle.commit_writes.specs.Bits.{FieldBits}
 use Rattle.commit_writes.specs.Shape.{set_pieces, inserted_pieces}
@@ -36,7 +37,7 @@ use Rattle.commit_writes.proofs.Turns.{AreSingle, AreDisjoint, IsOnward, onward_
 among_more : {X : Type 0} (few many : ℕ) (xs : List X) (x : X) → few ≤ many → Contains (take few xs) x → Contains (take many xs) x
 among_more few many xs x more member = let w = contains_take few xs x member in let early = w.1 in take_contains many xs x w.0 (omega arith) w.2 w.3
 
-module _ (mode : Mode) (bits : FieldBits) (state : State) (rules : List Rule) (batch : List Command) (live : List LivePiece) (slots : Slots) (entries : IdEntries) (planned : List Planned) (rewrites : List Rewrite) (erased : List ℕ) (plan : IsPlannedBatch mode bits state rules batch live slots entries planned rewrites erased) where
+module _ (mode : Mode) (bits : FieldBits) (state : State) (rules : List Rule) (batch : List Command) (live : List LivePiece) (slots : Slots) (entries : IdEntries) (planned : List Planned) (rewrites : List Rewrite) (erased : List ℕ) (plan : IsPlannedBatch (proposal mode bits rules batch) state live slots entries planned rewrites erased) where
   abbrev old : List RankedPiece
   old = set_pieces mode bits rules
 

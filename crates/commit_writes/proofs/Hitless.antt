@@ -25,6 +25,7 @@ use Rattle.tcam_device.proofs.Lookups.{HitAsPieces}
 use Rattle.tcam_device.specs.Insertion.{is_table_write}
 use Rattle.tcam_device.proofs.Shown.{ordered_shows}
 use Rattle.tcam_device.proofs.Wider.{all_take}
+use Rattle.commit_writes.specs.Proposal.{proposal}
 use Rattle.commit_writes.specs.declared.Rewrite.{Rewrite}
 use Rattle.commit_writes.specs.Bits.{FieldBits}
 use Rattle.commit_writes.specs.Commit.{ReplacesNone}
@@ -43,7 +44,7 @@ use Rattle.commit_writes.proofs.Mirror.{hits_after, served_hits}
 use Rattle.commit_writes.proofs.Ordered.{planned_first}
 use Rattle.commit_writes.proofs.Turns.{best_stays, one_turn}
 
-module _ (mode : Mode) (bits : FieldBits) (state : State) (rules : List Rule) (batch : List Command) (live : List LivePiece) (slots : Slots) (entries : IdEntries) (planned : List Planned) (rewrites : List Rewrite) (erased : List ℕ) (plan : IsPlannedBatch mode bits state rules batch live slots entries planned rewrites erased) where
+module _ (mode : Mode) (bits : FieldBits) (state : State) (rules : List Rule) (batch : List Command) (live : List LivePiece) (slots : Slots) (entries : IdEntries) (planned : List Planned) (rewrites : List Rewrite) (erased : List ℕ) (plan : IsPlannedBatch (proposal mode bits rules batch) state live slots entries planned rewrites erased) where
   abbrev made : List Write
   made = batch_writes entries slots planned rewrites erased
 

@@ -17,6 +17,7 @@ use Rattle.tcam_device.specs.State.{State, state_after}
 use Rattle.tcam_device.specs.Order.{IsOrdered, IsTranslated, ServesBits, StandsOnce, HasOneTwin}
 use Rattle.tcam_device.specs.Insertion.{Insertion, insertions, is_table_write}
 use Rattle.tcam_device.proofs.Wider.{all_take}
+use Rattle.commit_writes.specs.Proposal.{proposal}
 use Rattle.commit_writes.specs.declared.Rewrite.{Rewrite}
 use Rattle.commit_writes.specs.Bits.{FieldBits}
 use Rattle.commit_writes.specs.Shape.{set_pieces, inserted_pieces}
@@ -37,7 +38,7 @@ use Rattle.commit_writes.proofs.Row.{whole_insertions, whole_insertions-rise}
 use Rattle.commit_writes.proofs.SlotWrites.{batch_slots, tables_left}
 use Rattle.commit_writes.proofs.Start.{commit_piece, commit_makes, commit_done}
 
-module _ (mode : Mode) (bits : FieldBits) (state : State) (rules : List Rule) (batch : List Command) (live : List LivePiece) (slots : Slots) (entries : IdEntries) (planned : List Planned) (rewrites : List Rewrite) (erased : List ℕ) (plan : IsPlannedBatch mode bits state rules batch live slots entries planned rewrites erased) where
+module _ (mode : Mode) (bits : FieldBits) (state : State) (rules : List Rule) (batch : List Command) (live : List LivePiece) (slots : Slots) (entries : IdEntries) (planned : List Planned) (rewrites : List Rewrite) (erased : List ℕ) (plan : IsPlannedBatch (proposal mode bits rules batch) state live slots entries planned rewrites erased) where
   abbrev made : List Write
   made = batch_writes entries slots planned rewrites erased
 

@@ -12,6 +12,7 @@ use Rattle.placement.specs.declared.LivePiece.{LivePiece}
 use Rattle.tcam_device.specs.declared.Write.{Write}
 use Rattle.tcam_device.specs.State.{State, IsInUse}
 use Rattle.tcam_device.specs.Insertion.{Insertion, insertions, longest_insertion, IsGreatestSpan}
+use Rattle.commit_writes.specs.Proposal.{proposal}
 use Rattle.commit_writes.specs.Bits.{FieldBits}
 use Rattle.commit_writes.specs.Shape.{set_pieces, inserted_pieces, erased_pieces}
 use Rattle.commit_writes.specs.declared.Rewrite.{Rewrite}
@@ -33,7 +34,7 @@ module _ (mode : Mode) (bits : FieldBits) (state : State) (rules : List Rule) (b
   made = batch_writes entries slots planned rewrites erased
 
   -- the writes of a planned batch are the slot writes of a commit,
-  pub slot_writes : IsPlannedBatch mode bits state rules batch live slots entries planned rewrites erased
+  pub slot_writes : IsPlannedBatch (proposal mode bits rules batch) state live slots entries planned rewrites erased
       → AreSlotWrites mode bits rules batch state (batch_writes entries slots planned rewrites erased)
   slot_writes plan = record {
     hitless = batch_hitless mode bits state rules batch live slots entries planned rewrites erased plan;
@@ -46,7 +47,7 @@ module _ (mode : Mode) (bits : FieldBits) (state : State) (rules : List Rule) (b
   }
 
   -- have the numbers of their plan,
-  pub slot_numbers : IsPlannedBatch mode bits state rules batch live slots entries planned rewrites erased
+  pub slot_numbers : IsPlannedBatch (proposal mode bits rules batch) state live slots entries planned rewrites erased
       → (longest_insertion state (batch_writes entries slots planned rewrites erased) ≡ longest_planned planned)
       × IsGreatestSpan (insertions state (batch_writes entries slots planned rewrites erased)) (greatest_planned planned)
   slot_numbers plan = (
@@ -67,12 +68,12 @@ module _ (mode : Mode) (bits : FieldBits) (state : State) (rules : List Rule) (b
       makes = batch_insertions mode bits state rules batch live slots entries planned rewrites erased plan
 
   -- and write slots of the arrangement only,
-  home_inside : (plan : IsPlannedBatch mode bits state rules batch live slots entries planned rewrites erased) (ranked : RankedPiece) (id : ℕ) → IsIdOf live ranked id → home_slot after id < length slots
+  home_inside : (plan : IsPlannedBatch (proposal mode bits rules batch) state live slots entries planned rewrites erased) (ranked : RankedPiece) (id : ℕ) → IsIdOf live ranked id → home_slot after id < length slots
   home_inside plan ranked id is =
       subst (λ n. home_slot after id < n) (slots_kept slots planned)
       (slot_inside after (home_slot after id) id (batch_home mode bits state rules batch live slots entries planned rewrites erased plan ranked id is))
 
-  pub in_use : IsPlannedBatch mode bits state rules batch live slots entries planned rewrites erased → AllByRecursion (IsInUse (length slots)) made
+  pub in_use : IsPlannedBatch (proposal mode bits rules batch) state live slots entries planned rewrites erased → AllByRecursion (IsInUse (length slots)) made
   in_use plan =
       all_append (IsInUse (length slots)) (planned_writes entries planned) (map (rewrite_write after) rewrites ++ map (erase_write after) erased)
       (planned_in_use live slots entries planned plan.are_planned)

@@ -12,6 +12,7 @@ use Rattle.tcam_device.specs.declared.Write.{Write}
 use Rattle.tcam_device.specs.State.{IsState, State, IsInUse, on_device}
 use Rattle.tcam_device.specs.Insertion.{IsUncrossed}
 use Rattle.tcam_device.proofs.Wider.{slots-after}
+use Rattle.commit_writes.specs.Proposal.{proposal}
 use Rattle.commit_writes.specs.declared.Done.{Done}
 use Rattle.commit_writes.specs.declared.Rewrite.{Rewrite}
 use Rattle.commit_writes.specs.Bits.{FieldBits, bits_with}
@@ -42,7 +43,7 @@ module _ (mode : Mode) (bits : FieldBits) (rules : List Rule) (batch : List Comm
   made = batch_writes entries slots planned rewrites erased
 
   segment_of : (counts : Done) → IsState (length state.slots) state → AreBitsOf mode bits rules state → HaveFreeBits mode rules batch
-      → IsPlannedBatch mode during behind rules batch live slots entries planned rewrites erased → AreNumbersOf (tables ++ made) planned counts
+      → IsPlannedBatch (proposal mode during rules batch) behind live slots entries planned rewrites erased → AreNumbersOf (tables ++ made) planned counts
       → IsPlannedSegment mode bits rules batch state (tables ++ made) counts
   segment_of counts is are free plan numbers =
       let writes = slot_writes mode during behind rules batch live slots entries planned rewrites erased plan in
@@ -57,7 +58,7 @@ module _ (mode : Mode) (bits : FieldBits) (rules : List Rule) (batch : List Comm
       }
 
   -- they write slots of the arrangement only
-  all_in_use : IsPlannedBatch mode during behind rules batch live slots entries planned rewrites erased → AllByRecursion (IsInUse (length state.slots)) (tables ++ made)
+  all_in_use : IsPlannedBatch (proposal mode during rules batch) behind live slots entries planned rewrites erased → AllByRecursion (IsInUse (length state.slots)) (tables ++ made)
   all_in_use plan =
       all_append (IsInUse (length state.slots)) tables made (front_in_use mode bits rules batch state (length state.slots))
       (subst (λ size. AllByRecursion (IsInUse size) made) size (in_use mode during behind rules batch live slots entries planned rewrites erased plan))
@@ -68,7 +69,7 @@ module _ (mode : Mode) (bits : FieldBits) (rules : List Rule) (batch : List Comm
 -- so on every device with so many slots or more
 pub batch_segment : (mode : Mode) (bits : FieldBits) (rules : List Rule) (batch : List Command) (state : State) (live : List LivePiece) (slots : Slots) (entries : IdEntries) (planned : List Planned)
     (rewrites : List Rewrite) (erased : List ℕ) (counts : Done) (device_slots : ℕ) → IsState (length state.slots) state → AreBitsOf mode bits rules state → HaveFreeBits mode rules batch
-    → IsPlannedBatch mode (bits_with mode rules batch bits) (fresh_state mode bits rules batch state) rules batch live slots entries planned rewrites erased
+    → IsPlannedBatch (proposal mode (bits_with mode rules batch bits) rules batch) (fresh_state mode bits rules batch state) live slots entries planned rewrites erased
     → AreNumbersOf (fresh_writes mode bits rules batch state ++ batch_writes entries slots planned rewrites erased) planned counts
     → IsPlannedSegment mode bits rules batch (on_device device_slots state) (fresh_writes mode bits rules batch state ++ batch_writes entries slots planned rewrites erased) counts
 batch_segment mode bits rules batch state live slots entries planned rewrites erased counts device_slots is are free plan numbers =

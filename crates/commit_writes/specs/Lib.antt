@@ -1,4 +1,5 @@
 pub mod Bits
+pub mod Proposal
 pub mod Serving
 pub mod Shape
 pub mod Commit

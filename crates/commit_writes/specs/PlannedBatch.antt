@@ -17,6 +17,7 @@ use Rattle.tcam_device.specs.declared.Write.TheVariants.{Slot}
 use Rattle.tcam_device.specs.State.{State, IsState, state_after}
 use Rattle.tcam_device.specs.Hitless.{IsHitless, TurnsOnce}
 use Rattle.tcam_device.specs.Insertion.{insertions, table_writes, IsUncrossed, IsWithinTightBound}
+use Rattle.commit_writes.specs.Proposal.{Proposal}
 use Rattle.commit_writes.specs.declared.Done.{Done}
 use Rattle.commit_writes.specs.declared.Rewrite.{Rewrite}
 use Rattle.commit_writes.specs.Bits.{FieldBits}
@@ -67,21 +68,21 @@ batch_writes entries slots planned rewrites erased =
 -- A commit of changes to a set of rules, as it was planned behind the words of the tables: before it the set's entries
 -- stand in order, the state shows these, and its tables serve the rules; each piece that is new is one insertion; each that
 -- stays and gets a result has its id with its new entry; and each that goes has its id.
-pub record IsPlannedBatch (mode : Mode) (bits : FieldBits) (state : State) (rules : List Rule) (batch : List Command) (live : List LivePiece) (slots : Slots) (entries : IdEntries) (planned : List Planned) (rewrites : List Rewrite) (erased : List ℕ) : Type 0 where
-  pub is_set : IsRuleSet rules
-  pub right : AllByRecursion HasConditions rules
-  pub changes : AllByRecursion ChangesRules batch
-  pub sound : batch_fault rules batch ≡ None
+pub record IsPlannedBatch (asked : Proposal) (state : State) (live : List LivePiece) (slots : Slots) (entries : IdEntries) (planned : List Planned) (rewrites : List Rewrite) (erased : List ℕ) : Type 0 where
+  pub is_set : IsRuleSet asked.rules
+  pub right : AllByRecursion HasConditions asked.rules
+  pub changes : AllByRecursion ChangesRules asked.batch
+  pub sound : batch_fault asked.rules asked.batch ≡ None
   pub is_state : IsState (length state.slots) state
   pub mirrors : state.slots ≡ contents entries slots
-  pub serving : AreServing mode bits (rules ++ additions batch) state
+  pub serving : AreServing asked.mode asked.bits (asked.rules ++ additions asked.batch) state
   pub arranged : AreArranged live slots
-  pub entries_are : AreEntriesOf (set_pieces mode bits rules) live entries
-  pub inserted : map ranked_of planned ≡ inserted_pieces mode bits rules batch
+  pub entries_are : AreEntriesOf (set_pieces asked.mode asked.bits asked.rules) live entries
+  pub inserted : map ranked_of planned ≡ inserted_pieces asked.mode asked.bits asked.rules asked.batch
   pub have_entries : AllByRecursion (λ insertion. entry_at entries insertion.one.id ≡ Some (entry_for (ranked_of insertion))) planned
   pub are_planned : ArePlanned live slots planned
-  pub rewrites_are : AllZip (IsRewriteOf live) (rewritten_pieces mode bits rules batch) rewrites
-  pub erased_are : AllZip (IsIdOf live) (erased_pieces mode bits rules batch) erased
+  pub rewrites_are : AllZip (IsRewriteOf live) (rewritten_pieces asked.mode asked.bits asked.rules asked.batch) rewrites
+  pub erased_are : AllZip (IsIdOf live) (erased_pieces asked.mode asked.bits asked.rules asked.batch) erased
 
 -- what the writes behind the tables' words are: insertions, new results, erases, as `HasCommitShape` has them
 pub record HasSlotShape (mode : Mode) (bits : FieldBits) (rules : List Rule) (batch : List Command) (state : State) (writes : List Write) : Type 0 where

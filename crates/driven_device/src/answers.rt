@@ -3,9 +3,9 @@ ghost use Rattle.std.specs.Prelude.{◌≡◌, ◌-◌, ◌<◌, ◌↔◌, ◌�
 ghost use Rattle.rule_model.specs.RuleSet as sets;
 ghost use Rattle.rule_store.specs.Verdict.{entries_of};
 ghost use Rattle.tcam_device.specs.State.{lookup};
-ghost use Rattle.tcam_device.specs.Flight.{most_in_flight, search_answer, with_word};
+ghost use Rattle.tcam_device.specs.Flight.{most_in_flight, search_answer, with_word, writes_in};
 ghost use Rattle.tcam_device.specs.View.{IsSameButFlight, device_state};
-ghost use Rattle.batch_order.specs.Managed.{Serves, writes_due};
+ghost use Rattle.batch_order.specs.Managed.{Serves};
 ghost use Rattle.batch_order.specs.CarriedOut.{ahead};
 ghost use Rattle.driven_device.specs.Driven.{IsDriven};
 
@@ -69,7 +69,7 @@ impl<D: Device> Driven<D> {
     /// How many writes of the commit under way are still to make, forward, or back once it is turned round. None comes
     /// exactly where no commit is under way.
     pub fn left(&self) -> Option<u64>
-        ensures { result ≡ option_map (λ held. length (writes_due held)) self.now.manager.held }
+        ensures { result ≡ option_map (λ held. length (writes_in held.actions)) self.now.manager.held }
     {
         self.manager.left()
     }

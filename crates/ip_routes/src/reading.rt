@@ -149,7 +149,8 @@ impl Reading {
         version: IpVersion,
     ) -> Result<(), (Why, &'t [u8])>
         ensures { MatchResult result (λ _. read_words version self.old [] (gap_words text.now) ≡ Ok self.new)
-            (λ unsaid. read_words version self.old [] (gap_words text.now) ≡ Err (record { why = unsaid.0; word = unsaid.1.now })) }
+            (λ unsaid. read_words version self.old [] (gap_words text.now)
+            ≡ Err (record { why = unsaid.0; word = unsaid.1.now })) }
     {
         let mut rest = text;
         let mut last: &[u8] = b"";

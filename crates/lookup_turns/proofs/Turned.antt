@@ -4,7 +4,6 @@ use Rattle.std.specs.Prelude.{nat_lt, drop}
 use Rattle.rule_model.specs.declared.Key.{Key}
 use Rattle.rule_model.specs.Key.{IsKey}
 use Rattle.rule_model.specs.RuleSet.{Answer, answer}
-use Rattle.tcam_device.specs.declared.Write.{Write}
 use Rattle.tcam_device.specs.declared.Action.{Action}
 use Rattle.tcam_device.specs.declared.Action.TheVariants.{Written, Drained}
 use Rattle.tcam_device.specs.State.{State, lookup, on_device}
@@ -15,28 +14,21 @@ use Rattle.commit_writes.proofs.Current.{current_answers, are_current_part, are_
 use Rattle.batch_order.specs.declared.Step.{Step}
 use Rattle.batch_order.specs.declared.Step.TheVariants as step
 use Rattle.batch_order.specs.Managed.{Managed, HeldCommit, Serves, live_now}
-use Rattle.batch_order.specs.Steps.{Steps, StepsEither, StepsOn, StepsBack, KeepsCurrent}
+use Rattle.batch_order.specs.Steps.{Steps, StepsOn, KeepsCurrent}
 use Rattle.batch_order.specs.CarriedOut.{ahead_of}
+use Rattle.batch_order.proofs.under_way.Stepped.{not_drained}
 use Rattle.lookup_turns.specs.Turns.{Outcome, SearchesOnce, translated}
 
 -- a drain comes only where no word is in flight
 on_empty : (old : Managed) (held : HeldCommit) (words : ℕ) (actions : List Action) (new : Managed) → StepsOn old held words actions step.Drained new → words ≡ 0
-on_empty old held words [] new did = absurd (let clash = did.0 in cc)
+on_empty old held words [] new did = absurd (not_drained held.way held did.0)
 on_empty old held words (Written write ∷ actions) new did = absurd (let clash = did.0 in cc)
 on_empty old held zero (Drained ∷ actions) new did = refl
 on_empty old held (suc words) (Drained ∷ actions) new did = absurd (let clash = did.0 in cc)
 
-not_back : (old : Managed) (held : HeldCommit) (undone : ℕ) (undo : List Write) (new : Managed) → StepsBack old held undone undo step.Drained new → ⊥
-not_back old held undone [] new did = let clash = did.0 in cc
-not_back old held undone (write ∷ undo) new did = let clash = did.0 in cc
-
-either_empty : (old : Managed) (held : HeldCommit) (words : ℕ) (turned : Option ℕ) (new : Managed) → StepsEither old held words turned step.Drained new → words ≡ 0
-either_empty old held words None new did = on_empty old held words held.actions new did
-either_empty old held words (Some undone) new did = absurd (not_back old held undone held.undo new did)
-
 drains_empty : (old : Managed) (words : ℕ) (held : Option HeldCommit) (new : Managed) → Steps old words held step.Drained new → words ≡ 0
 drains_empty old words None new did = absurd (let clash = did.0 in cc)
-drains_empty old words (Some held) new did = either_empty old held words held.turned new did
+drains_empty old words (Some held) new did = on_empty old held words held.actions new did
 
 no_words : (bits : FieldBits) (flight : Flight) → length flight ≡ 0 → AreCurrent bits flight
 no_words bits [] none = tt

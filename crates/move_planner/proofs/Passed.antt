@@ -16,6 +16,7 @@ use Rattle.slot_pool.proofs.Scan.{next_free_is, last_free_is}
 use Rattle.placement.specs.Live.{LivePieces, is_above, rank_in}
 use Rattle.placement.specs.declared.Move.{Move}
 use Rattle.placement.specs.declared.Move.TheVariants.{Erase}
+use Rattle.move_planner.specs.Made.{moves_made}
 use Rattle.move_planner.specs.declared.sides.Sides.{Sides}
 use Rattle.move_planner.specs.declared.crossings.Cut.{Cut}
 use Rattle.move_planner.specs.declared.chains.Chain.{Chain}
@@ -108,7 +109,7 @@ module _ (index : LivePieces) (id : ℕ) (behind before : ℕ → Bool) (slots :
   pub passed_down : (slots' : Slots) (plan plan' : List Move) (lower : ℕ) → sides.start ≤ lower → lower < cut.low → IsLastBefore behind cut.boundary slots lower
       → (went : WentDown (is_above index.live) slots slots' plan plan' lower cut.boundary)
       → ((upper : ℕ) → IsFirstFrom before cut.boundary slots upper → (up : UpChain (is_above index.live) slots upper (last_free_below slots cut.boundary)) → length went.down.rest ≤ length up.rest)
-      → OnePassed index id behind before slots slots' plan plan' sides cut (record { boundary = cut.boundary; low = lower; high = cut.high })
+      → OnePassed index id behind before (moves_made slots plan) (moves_made slots' plan') sides cut (record { boundary = cut.boundary; low = lower; high = cut.high })
   passed_down slots' plan plan' lower low less last went shortest = record {
     moves = moves;
     gained = went.gained;
@@ -205,7 +206,7 @@ module _ (index : LivePieces) (id : ℕ) (behind before : ℕ → Bool) (slots :
   pub passed_up : (slots' : Slots) (plan plan' : List Move) (upper : ℕ) → cut.high ≤ upper → upper < sides.end → IsFirstFrom before cut.boundary slots upper
       → (went : WentUp (is_above index.live) slots slots' plan plan' upper cut.boundary)
       → ((lower : ℕ) → IsLastBefore behind cut.boundary slots lower → (down : DownChain (is_above index.live) slots lower (next_free_above slots (cut.boundary - 1))) → length went.up.rest < length down.rest)
-      → OnePassed index id behind before slots slots' plan plan' sides cut (record { boundary = cut.boundary; low = cut.low; high = upper + 1 })
+      → OnePassed index id behind before (moves_made slots plan) (moves_made slots' plan') sides cut (record { boundary = cut.boundary; low = cut.low; high = upper + 1 })
   passed_up slots' plan plan' upper low less first went shortest = record {
     moves = moves;
     gained = went.gained;

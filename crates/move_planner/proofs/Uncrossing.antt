@@ -8,6 +8,7 @@ use Rattle.slot_moves.proofs.Tally.{take_clear, drop_clear}
 use Rattle.slot_pool.specs.Arrangement.{Slots}
 use Rattle.placement.specs.Live.{LivePieces, is_above, rank_in}
 use Rattle.placement.specs.declared.Move.{Move}
+use Rattle.move_planner.specs.Made.{moves_made}
 use Rattle.move_planner.specs.declared.sides.Sides.{Sides}
 use Rattle.move_planner.specs.declared.crossings.Cut.{Cut}
 use Rattle.placement.specs.Placement.{after_moves, first_lower, last_upper, next_slot, gap_start, gap_end, straight, AreSides, Pass, passed, IsPlacing, uncross}
@@ -53,7 +54,7 @@ uncrossing_none index id slots plan sides boundary w best = record {
 
 -- one turn more
 pub uncrossing_more : (index : LivePieces) (id : ℕ) (a b c : Slots) (p q r : List Move) (sides : Sides) (boundary : ℕ) (cut next : Cut) → IsUncrossing index id a b p q sides boundary cut
-    → OnePassed index id (is_behind (is_above index.live) a id) (is_before (is_above index.live) a id) b c q r sides cut next → IsUncrossing index id a c p r sides boundary next
+    → OnePassed index id (is_behind (is_above index.live) a id) (is_before (is_above index.live) a id) (moves_made b q) (moves_made c r) sides cut next → IsUncrossing index id a c p r sides boundary next
 uncrossing_more index id a b c p q r sides boundary cut next x y = record {
   moves = x.moves ++ y.moves;
   gained = y.gained ∙ (ap (λ z. z ++ y.moves) x.gained ∙ append_assoc p x.moves y.moves);
@@ -105,7 +106,7 @@ nothing_crosses index id slots behind before cut ready sides inside none_early n
 
 -- all turns
 pub uncrossed_all : (index : LivePieces) (id : ℕ) (a b c : Slots) (p q r : List Move) (sides : Sides) (boundary : ℕ) (cut : Cut) → IsBegun index id a sides → IsBestTo a sides sides.end boundary
-    → IsUncrossing index id a b p q sides boundary cut → NonePasses (is_behind (is_above index.live) a id) (is_before (is_above index.live) a id) b c q r cut → UndoesCrossing index id a c p r
+    → IsUncrossing index id a b p q sides boundary cut → NonePasses (is_behind (is_above index.live) a id) (is_before (is_above index.live) a id) (moves_made b q) (moves_made c r) cut → UndoesCrossing index id a c p r
 uncrossed_all index id a b c p q r sides boundary cut w best x none = record {
   moves = x.moves;
   gained = none.same_plan ∙ x.gained;

@@ -12,6 +12,7 @@ use Rattle.slot_pool.specs.Arrangement.{Slots, next_free_above, last_free_below}
 use Rattle.slot_pool.proofs.Scan.{next_free_is, last_free_is}
 use Rattle.placement.specs.Live.{LivePieces, is_above}
 use Rattle.placement.specs.declared.Move.{Move}
+use Rattle.move_planner.specs.Made.{moves_made}
 use Rattle.move_planner.specs.declared.sides.Sides.{Sides}
 use Rattle.move_planner.specs.declared.crossings.Cut.{Cut}
 use Rattle.move_planner.specs.declared.chains.Chain.{Chain}
@@ -173,18 +174,18 @@ module _ (index : LivePieces) (id : ℕ) (behind before : ℕ → Bool) (slots :
   -- it has passed
   pub passer_passed : (slots' : Slots) (plan plan' : List Move) (chain : Chain) (first : ℕ)
       → EarlyPasses (is_above index.live) behind before slots sides cut chain ⊎ LatePasses (is_above index.live) behind before slots sides cut chain
-      → first ≡ slice_index_or chain.members.items 0 chain.free → IsShiftedOut slots slots' plan plan' chain → OnePassed index id behind before slots slots' plan plan' sides cut (cleared cut first)
+      → first ≡ slice_index_or chain.members.items 0 chain.free → IsShiftedOut slots slots' plan plan' chain → OnePassed index id behind before (moves_made slots plan) (moves_made slots' plan') sides cut (cleared cut first)
   passer_passed slots' plan plan' chain first (inl e) is out =
       let k : first ≡ e.early_one.lower = is ∙ ap (λ ms. slice_index_or ms 0 chain.free) e.early_one.down.members in
       let l : nat_lt e.early_one.lower cut.boundary ≡ true = lt-ltb e.early_one.lower cut.boundary e.early_one.last.inside in
-      subst (λ x. OnePassed index id behind before slots slots' plan plan' sides cut (cleared cut x)) (sym k)
-      (subst (OnePassed index id behind before slots slots' plan plan' sides cut) (sym (cond-true _ _ _ l))
+      subst (λ x. OnePassed index id behind before (moves_made slots plan) (moves_made slots' plan') sides cut (cleared cut x)) (sym k)
+      (subst (OnePassed index id behind before (moves_made slots plan) (moves_made slots' plan') sides cut) (sym (cond-true _ _ _ l))
       (passed_down index id behind before slots sides cut w slots' plan plan' e.early_one.lower e.early_one.low e.early_one.less e.early_one.last
       (went_down index slots slots' plan plan' e.early_one.lower cut.boundary chain e.early_one.down out) e.shortest))
   passer_passed slots' plan plan' chain first (inr e) is out =
       let k : first ≡ e.late_one.upper = is ∙ ap (λ ms. slice_index_or ms 0 chain.free) e.late_one.up.members in
       let l : nat_lt e.late_one.upper cut.boundary ≡ false = false_from_ne_true _ (λ y. let m = ltb-true e.late_one.upper cut.boundary y in let n = e.late_one.first.inside in absurd (omega arith)) in
-      subst (λ x. OnePassed index id behind before slots slots' plan plan' sides cut (cleared cut x)) (sym k)
-      (subst (OnePassed index id behind before slots slots' plan plan' sides cut) (sym (cond-false _ _ _ l))
+      subst (λ x. OnePassed index id behind before (moves_made slots plan) (moves_made slots' plan') sides cut (cleared cut x)) (sym k)
+      (subst (OnePassed index id behind before (moves_made slots plan) (moves_made slots' plan') sides cut) (sym (cond-false _ _ _ l))
       (passed_up index id behind before slots sides cut w slots' plan plan' e.late_one.upper e.late_one.high e.late_one.less e.late_one.first
       (went_up index slots slots' plan plan' e.late_one.upper cut.boundary chain e.late_one.up out) e.shortest))

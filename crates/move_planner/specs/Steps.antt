@@ -7,6 +7,7 @@ use Rattle.placement.specs.Live.{LivePieces, is_live, is_above, rank_in}
 use Rattle.placement.specs.declared.Aim.{Aim}
 use Rattle.placement.specs.declared.Move.{Move}
 use Rattle.placement.specs.declared.Move.TheVariants.{Put, Erase}
+use Rattle.move_planner.specs.Made.{MovesMade}
 use Rattle.move_planner.specs.declared.chains.Chain.{Chain}
 use Rattle.move_planner.specs.declared.shorter.Ends.{Ends}
 use Rattle.move_planner.specs.declared.sides.Sides.{Sides}
@@ -176,15 +177,15 @@ pub record IsUnderway (index : LivePieces) (id : ℕ) (behind before : ℕ → B
   pub clear_end : (at : ℕ) → sides.end ≤ at → holds before (slot slots at) ≡ false
 
 -- one entry has passed the boundary
-pub record OnePassed (index : LivePieces) (id : ℕ) (behind before : ℕ → Bool) (slots slots' : Slots) (plan plan' : List Move) (sides : Sides) (cut next : Cut) : Type 0 where
+pub record OnePassed (index : LivePieces) (id : ℕ) (behind before : ℕ → Bool) (was now : MovesMade) (sides : Sides) (cut next : Cut) : Type 0 where
   pub moves : List Move
-  pub gained : plan' ≡ plan ++ moves
-  pub after : slots' ≡ after_moves slots moves
-  pub goes_on : (rest : List Move) → Pass (is_above index.live) behind before cut.boundary slots' rest → Pass (is_above index.live) behind before cut.boundary slots (moves ++ rest)
-  pub underway : IsUnderway index id behind before slots' sides next
+  pub gained : now.plan ≡ was.plan ++ moves
+  pub after : now.slots ≡ after_moves was.slots moves
+  pub goes_on : (rest : List Move) → Pass (is_above index.live) behind before cut.boundary now.slots rest → Pass (is_above index.live) behind before cut.boundary was.slots (moves ++ rest)
+  pub underway : IsUnderway index id behind before now.slots sides next
   pub same_boundary : next.boundary ≡ cut.boundary
-  pub same_free : free_slots slots' ≡ free_slots slots
-  pub fewer : wrong_side behind before cut.boundary slots' + 1 ≡ wrong_side behind before cut.boundary slots
+  pub same_free : free_slots now.slots ≡ free_slots was.slots
+  pub fewer : wrong_side behind before cut.boundary now.slots + 1 ≡ wrong_side behind before cut.boundary was.slots
   pub few : length moves ≤ (1 + most_slots)
 
 -- the ends of the last early entry's chain, or none, since none is early or no slot behind the boundary is free
@@ -250,15 +251,15 @@ FindsPasser above behind before slots sides cut found =
     MatchOption found (NonePass behind before slots cut) (λ chain. EarlyPasses above behind before slots sides cut chain ⊎ LatePasses above behind before slots sides cut chain)
 
 -- none is left to pass it
-pub record NonePasses (behind before : ℕ → Bool) (slots slots' : Slots) (plan plan' : List Move) (cut : Cut) : Type 0 where
-  pub early_none : early behind cut.boundary slots ≡ 0
-  pub late_none : late before cut.boundary slots ≡ 0
-  pub same_slots : slots' ≡ slots
-  pub same_plan : plan' ≡ plan
+pub record NonePasses (behind before : ℕ → Bool) (was now : MovesMade) (cut : Cut) : Type 0 where
+  pub early_none : early behind cut.boundary was.slots ≡ 0
+  pub late_none : late before cut.boundary was.slots ≡ 0
+  pub same_slots : now.slots ≡ was.slots
+  pub same_plan : now.plan ≡ was.plan
 
-abbrev pub MayPass : LivePieces → ℕ → (ℕ → Bool) → (ℕ → Bool) → Slots → Slots → List Move → List Move → Sides → Cut → Option Cut → Type 0
-MayPass index id behind before slots slots' plan plan' sides cut next =
-    MatchOption next (NonePasses behind before slots slots' plan plan' cut) (OnePassed index id behind before slots slots' plan plan' sides cut)
+abbrev pub MayPass : LivePieces → ℕ → (ℕ → Bool) → (ℕ → Bool) → MovesMade → MovesMade → Sides → Cut → Option Cut → Type 0
+MayPass index id behind before was now sides cut next =
+    MatchOption next (NonePasses behind before was now cut) (OnePassed index id behind before was now sides cut)
 
 -- how far a boundary is clear once what stood in a slot has passed it
 abbrev pub cleared : Cut → ℕ → Cut

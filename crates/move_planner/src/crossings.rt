@@ -5,6 +5,7 @@ ghost use Rattle.placement.specs.Live.{LivePieces, is_above};
 ghost use Rattle.placement.specs.Placement.{gap_start, gap_end, IsInOrder};
 ghost use Rattle.placement.specs.Insertion.{AreMade};
 ghost use Rattle.placement.specs.Ready.{CanShift, IsReady};
+ghost use Rattle.move_planner.specs.Made.{moves_made};
 ghost use Rattle.move_planner.specs.Steps.{IsShiftedOut, FindsEarly, FindsLate, FindsPasser, IsUnderway, MayPass, IsFurther, UndoesCrossing, cleared};
 
 use crate::Moves;
@@ -70,7 +71,7 @@ fn pass_one(
 ) -> Result<Option<Cut>, AllocError>
     requires { (id : ℕ) × (behind : ℕ → Bool) × (before : ℕ → Bool) × IsUnderway index.now id behind before slots.old sides.now cut }
     ensures passed { IfOk result (λ next. (id : ℕ) (behind before : ℕ → Bool) → IsUnderway index.now id behind before slots.old sides.now cut
-        → MayPass index.now id behind before slots.old slots.new plan.old plan.new sides.now cut next) }
+        → MayPass index.now id behind before (moves_made slots.old plan.old) (moves_made slots.new plan.new) sides.now cut next) }
     ensures further { IfOk result (IsFurther sides.now cut) }
     ensures made { OnErr result (AreMade slots.old slots.new plan.old plan.new) }
 {

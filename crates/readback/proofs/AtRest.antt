@@ -16,6 +16,7 @@ use Rattle.tcam_device.specs.State.{State, IsInUse, IsState, state_after, on_dev
 use Rattle.tcam_device.specs.Order.{IsOrdered}
 use Rattle.tcam_device.proofs.Spans.{state_after-append}
 use Rattle.tcam_device.proofs.Wider.{padded, slot-padded, state_after-padded, slots-after}
+use Rattle.commit_writes.specs.Proposal.{proposal}
 use Rattle.commit_writes.specs.declared.Rewrite.{Rewrite}
 use Rattle.commit_writes.specs.Bits.{FieldBits, bits_with, bits_left}
 use Rattle.commit_writes.specs.Planned.{IdEntries, Planned, contents, with_slots, slots_after}
@@ -27,6 +28,7 @@ use Rattle.commit_writes.proofs.KeptBits.{pieces_left}
 use Rattle.commit_writes.proofs.Mirror.{IsOrdered_same}
 use Rattle.commit_writes.proofs.ServedTables.{bits_after}
 use Rattle.commit_writes.proofs.SlotWrites.{LeavesTables, tables_left}
+use Rattle.readback.specs.Halt.{halt_at, parts_as_planned}
 use Rattle.readback.specs.Tasks.{Task, CommitPieces, commit_pieces, known_pieces, is_told_in}
 use Rattle.readback.specs.Stage.{IsCommitAt}
 use Rattle.readback.specs.Going.{twin_writes}
@@ -54,7 +56,7 @@ twin_few (Some at) = omega arith
 
 module _ (device_slots : ℕ) (mode : Mode) (bits : FieldBits) (rules : List Rule) (batch : List Command) (state : State) (done left : List Task) (twin : Option ℕ)
     (live : List LivePiece) (slots : Slots) (entries : IdEntries) (planned : List Planned) (rewrites : List Rewrite) (erased : List ℕ)
-    (plan : IsPlannedRestart device_slots mode bits rules batch state done left twin live slots entries planned rewrites erased) where
+    (plan : IsPlannedRestart device_slots (proposal mode bits rules batch) state (halt_at done left twin) live slots entries (parts_as_planned planned rewrites erased)) where
   abbrev b : Begun
   b = started device_slots mode bits rules batch state done left twin live slots entries planned rewrites erased plan
 
@@ -80,7 +82,7 @@ module _ (device_slots : ℕ) (mode : Mode) (bits : FieldBits) (rules : List Rul
   slot_part = batch_writes entries slots planned rewrites erased
 
   abbrev writes : List Write
-  writes = restart_writes mode bits rules batch state twin entries slots planned rewrites erased
+  writes = restart_writes (proposal mode bits rules batch) state twin entries slots planned rewrites erased
 
   -- where the writes lead, on the device and in the slots in use
   abbrev last : State
@@ -124,7 +126,7 @@ module _ (device_slots : ℕ) (mode : Mode) (bits : FieldBits) (rules : List Rul
       let most = few b in
       omega arith
 
-  leads_on : LeadsOn mode bits rules batch state live slots entries planned rewrites erased writes
+  leads_on : LeadsOn (proposal mode bits rules batch) state live slots entries planned rewrites erased writes
   leads_on = record {
     in_use = all_inside;
     few = all_few;

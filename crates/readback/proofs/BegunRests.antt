@@ -9,6 +9,7 @@ use Rattle.rule_store.specs.Batch.{additions, set_after}
 use Rattle.rule_model.specs.Entry.{RankedPiece}
 use Rattle.placement.specs.declared.LivePiece.{LivePiece}
 use Rattle.tcam_device.specs.State.{State, IsState}
+use Rattle.commit_writes.specs.Proposal.{proposal}
 use Rattle.commit_writes.specs.declared.Rewrite.{Rewrite}
 use Rattle.commit_writes.specs.Bits.{FieldBits, bits_with}
 use Rattle.commit_writes.specs.Shape.{set_pieces}
@@ -42,7 +43,7 @@ pub record Begun : Type 0 where
   -- the tables serve the old rules and the new ones
   pub serving : AreServing mode (bits_with mode rules batch bits) (rules ++ additions batch) start
   pub stage : IsCommitAt (length slots) mode bits rules batch start done left
-  pub plan : IsPlannedRest mode bits rules batch start left live slots entries planned rewrites erased
+  pub plan : IsPlannedRest (proposal mode bits rules batch) start left live slots entries planned rewrites erased
 
 -- the bits that are live meanwhile
 abbrev pub during_of : Begun → FieldBits

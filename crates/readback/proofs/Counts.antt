@@ -14,12 +14,14 @@ use Rattle.tcam_device.specs.State.{State, state_after, on_device}
 use Rattle.tcam_device.specs.Insertion.{Insertion, insertions, IsGreatestSpan, IsUncrossed}
 use Rattle.tcam_device.proofs.Wider.{padded}
 use Rattle.tcam_device.proofs.WiderInsertions.{insertions-padded, longest-padded, IsGreatestSpan-widened, IsUncrossed-widened}
+use Rattle.commit_writes.specs.Proposal.{proposal}
 use Rattle.commit_writes.specs.declared.Done.{Done}
 use Rattle.commit_writes.specs.declared.Rewrite.{Rewrite}
 use Rattle.commit_writes.specs.Bits.{FieldBits}
 use Rattle.commit_writes.specs.Planned.{IdEntries, Planned, greatest_planned}
 use Rattle.commit_writes.specs.PlannedBatch.{AreNumbersOf, batch_writes}
 use Rattle.commit_writes.specs.Routes.{IsRoute, prefix_lengths}
+use Rattle.readback.specs.Halt.{halt_at, parts_as_planned}
 use Rattle.readback.specs.Tasks.{Task}
 use Rattle.readback.specs.Going.{HasRestShape, AreRestCounts, twin_writes, rest_insertions}
 use Rattle.readback.specs.PlannedRest.{rest_words, restart_writes}
@@ -31,7 +33,7 @@ use Rattle.readback.proofs.Started.{started}
 
 module _ (device_slots : ℕ) (mode : Mode) (bits : FieldBits) (rules : List Rule) (batch : List Command) (state : State) (done left : List Task) (twin : Option ℕ)
     (live : List LivePiece) (slots : Slots) (entries : IdEntries) (planned : List Planned) (rewrites : List Rewrite) (erased : List ℕ)
-    (plan : IsPlannedRestart device_slots mode bits rules batch state done left twin live slots entries planned rewrites erased) where
+    (plan : IsPlannedRestart device_slots (proposal mode bits rules batch) state (halt_at done left twin) live slots entries (parts_as_planned planned rewrites erased)) where
   abbrev b : Begun
   b = started device_slots mode bits rules batch state done left twin live slots entries planned rewrites erased plan
 
@@ -48,7 +50,7 @@ module _ (device_slots : ℕ) (mode : Mode) (bits : FieldBits) (rules : List Rul
   slot_part = batch_writes entries slots planned rewrites erased
 
   abbrev writes : List Write
-  writes = restart_writes mode bits rules batch state twin entries slots planned rewrites erased
+  writes = restart_writes (proposal mode bits rules batch) state twin entries slots planned rewrites erased
 
   abbrev there : State
   there = padded more b.start

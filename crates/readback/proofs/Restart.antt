@@ -20,6 +20,7 @@ use Rattle.tcam_device.specs.Insertion.{Insertion, insertions, is_table_write, A
 use Rattle.tcam_device.proofs.Spans.{state_after-append, wide_from_tight}
 use Rattle.tcam_device.proofs.Wider.{padded, all_take, state_after-padded}
 use Rattle.tcam_device.proofs.WiderInsertions.{insertions-padded, AreBoundedBy-widened}
+use Rattle.commit_writes.specs.Proposal.{proposal}
 use Rattle.commit_writes.specs.declared.Rewrite.{Rewrite}
 use Rattle.commit_writes.specs.Bits.{FieldBits}
 use Rattle.commit_writes.specs.Shape.{Rewrites, Erases}
@@ -27,6 +28,7 @@ use Rattle.commit_writes.specs.Planned.{IdEntries, Planned}
 use Rattle.commit_writes.specs.PlannedBatch.{batch_writes}
 use Rattle.commit_writes.proofs.ServedTables.{IsBitsStart, words_state}
 use Rattle.commit_writes.proofs.SlotWrites.{AreToSlots, batch_slots}
+use Rattle.readback.specs.Halt.{halt_at, parts_as_planned}
 use Rattle.readback.specs.Tasks.{Task, CommitPieces, commit_pieces}
 use Rattle.readback.specs.Going.{GoesOn, HasRestShape, twin_writes, inserted_by, rewritten_by, erased_by, rest_insertions}
 use Rattle.readback.specs.Laws.{KeepsRest, PassesStages}
@@ -42,7 +44,7 @@ use Rattle.readback.proofs.Wider.{AreRest-padded, KeepsRest-padded}
 
 module _ (device_slots : ℕ) (mode : Mode) (bits : FieldBits) (rules : List Rule) (batch : List Command) (state : State) (done left : List Task) (twin : Option ℕ)
     (live : List LivePiece) (slots : Slots) (entries : IdEntries) (planned : List Planned) (rewrites : List Rewrite) (erased : List ℕ)
-    (plan : IsPlannedRestart device_slots mode bits rules batch state done left twin live slots entries planned rewrites erased) where
+    (plan : IsPlannedRestart device_slots (proposal mode bits rules batch) state (halt_at done left twin) live slots entries (parts_as_planned planned rewrites erased)) where
   abbrev b : Begun
   b = started device_slots mode bits rules batch state done left twin live slots entries planned rewrites erased plan
 
@@ -62,7 +64,7 @@ module _ (device_slots : ℕ) (mode : Mode) (bits : FieldBits) (rules : List Rul
   slot_part = batch_writes entries slots planned rewrites erased
 
   abbrev writes : List Write
-  writes = restart_writes mode bits rules batch state twin entries slots planned rewrites erased
+  writes = restart_writes (proposal mode bits rules batch) state twin entries slots planned rewrites erased
 
   -- where the rest begins, on the device
   abbrev there : State
@@ -85,7 +87,7 @@ module _ (device_slots : ℕ) (mode : Mode) (bits : FieldBits) (rules : List Rul
   wide_keeps : KeepsRest (length slots) p there left (inserting b)
   wide_keeps = KeepsRest-padded more p b.start left (inserting b) (telling b) (erasing b) (in_use b) (length slots) (keeps b)
 
-  pub shape : HasRestShape mode bits rules batch (on_device device_slots state) left twin (restart_writes mode bits rules batch state twin entries slots planned rewrites erased)
+  pub shape : HasRestShape mode bits rules batch (on_device device_slots state) left twin (restart_writes (proposal mode bits rules batch) state twin entries slots planned rewrites erased)
   shape = record {
     tables = tables;
     inserted = inserting b;
@@ -103,7 +105,7 @@ module _ (device_slots : ℕ) (mode : Mode) (bits : FieldBits) (rules : List Rul
   wide_is : IsState (length wide.slots) wide
   wide_is = record { size = refl; src_size = plan.is_state.src_size; dst_size = plan.is_state.dst_size; src_words = plan.is_state.src_words; dst_words = plan.is_state.dst_words }
 
-  pub passes : PassesStages (length slots) mode bits rules batch (on_device device_slots state) (restart_writes mode bits rules batch state twin entries slots planned rewrites erased)
+  pub passes : PassesStages (length slots) mode bits rules batch (on_device device_slots state) (restart_writes (proposal mode bits rules batch) state twin entries slots planned rewrites erased)
   unfolding shape
   passes = rests_pass (length slots) (length wide.slots) mode bits rules batch wide done left twin writes plan.can wide_is plan.stage plan.is_twin shape
       (subst (λ (now : State). KeepsRest (length slots) p now left (inserting b)) (sym reached) wide_keeps)
@@ -141,7 +143,7 @@ module _ (device_slots : ℕ) (mode : Mode) (bits : FieldBits) (rules : List Rul
   pub sized_last : IsState (length wide.slots) (state_after wide writes)
   sized_last = subst (λ (all : List Write). IsState (length wide.slots) (state_after wide all)) (take_all (length writes) writes (le_refl (length writes))) (sized (length writes))
 
-  pub goes_on : GoesOn (length slots) mode bits rules batch (on_device device_slots state) left twin (restart_writes mode bits rules batch state twin entries slots planned rewrites erased)
+  pub goes_on : GoesOn (length slots) mode bits rules batch (on_device device_slots state) left twin (restart_writes (proposal mode bits rules batch) state twin entries slots planned rewrites erased)
   goes_on = record {
     shape = shape;
     stages = passes.stages;
@@ -160,7 +162,7 @@ restarts_go_on device_slots mode bits rules batch state done left twin live slot
 -- and so does a planned rest, where there is no twin
 pub rests_planned : PlannedRestsPassStages
 rests_planned mode bits rules batch state device_slots done left live slots entries planned rewrites erased can is stage alone rest =
-    let plan : IsPlannedRestart device_slots mode bits rules batch state done left None live slots entries planned rewrites erased = record { can = can; is_state = is; stage = stage; is_twin = alone; rest = rest } in
+    let plan : IsPlannedRestart device_slots (proposal mode bits rules batch) state (halt_at done left None) live slots entries (parts_as_planned planned rewrites erased) = record { can = can; is_state = is; stage = stage; is_twin = alone; rest = rest } in
     record {
       shape = shape device_slots mode bits rules batch state done left None live slots entries planned rewrites erased plan;
       passes = passes device_slots mode bits rules batch state done left None live slots entries planned rewrites erased plan;

@@ -19,6 +19,7 @@ use Rattle.tcam_device.specs.State.{State, IsState, state_after, on_device}
 use Rattle.tcam_device.specs.Order.{IsTranslated}
 use Rattle.tcam_device.specs.Insertion.{is_table_write, table_writes}
 use Rattle.tcam_device.proofs.Wider.{all_take}
+use Rattle.commit_writes.specs.Proposal.{proposal}
 use Rattle.commit_writes.specs.declared.Rewrite.{Rewrite}
 use Rattle.commit_writes.specs.Actions.{have_bits}
 use Rattle.commit_writes.specs.Bits.{FieldBits, bits_with, new_bits}
@@ -31,6 +32,7 @@ use Rattle.commit_writes.proofs.LiveRanges.{live_meanwhile, same_ranges, transla
 use Rattle.commit_writes.proofs.ServedTables.{IsBitsStart, tables_serve}
 use Rattle.commit_writes.proofs.SlotWrites.{no_table, tables_left}
 use Rattle.commit_writes.proofs.TableWrites.{all_tables, bit_writes-tables}
+use Rattle.readback.specs.Halt.{halt_at, parts_as_planned}
 use Rattle.readback.specs.Tasks.{CommitPieces, Task, commit_pieces, stands_in, IsStanding}
 use Rattle.readback.specs.Stage.{IsStage}
 use Rattle.commit_writes.specs.Serving.{AreTranslated}
@@ -45,7 +47,7 @@ use Rattle.readback.proofs.Serving.{some_stand, none_stand, serving_during, serv
 
 module _ (device_slots : ℕ) (mode : Mode) (bits : FieldBits) (rules : List Rule) (batch : List Command) (state : State) (done left : List Task) (twin : Option ℕ)
     (live_ids : List LivePiece) (slots : Slots) (entries : IdEntries) (planned : List Planned) (rewrites : List Rewrite) (erased : List ℕ)
-    (plan : IsPlannedRestart device_slots mode bits rules batch state done left twin live_ids slots entries planned rewrites erased) where
+    (plan : IsPlannedRestart device_slots (proposal mode bits rules batch) state (halt_at done left twin) live_ids slots entries (parts_as_planned planned rewrites erased)) where
   abbrev wide : State
   wide = on_device device_slots state
 
@@ -62,7 +64,7 @@ module _ (device_slots : ℕ) (mode : Mode) (bits : FieldBits) (rules : List Rul
   slot_part = twin_writes twin ++ batch_writes entries slots planned rewrites erased
 
   abbrev writes : List Write
-  writes = restart_writes mode bits rules batch state twin entries slots planned rewrites erased
+  writes = restart_writes (proposal mode bits rules batch) state twin entries slots planned rewrites erased
 
   abbrev now : ℕ → State
   now n = state_after wide (take n writes)
@@ -159,7 +161,7 @@ pub restarts_serve : PlannedRestartsServe
 restarts_serve device_slots mode bits rules batch state done left twin live_ids slots entries planned rewrites erased plan =
     let wide = on_device device_slots state in
     let before = stopped_ranges mode bits rules batch wide in
-    let writes = restart_writes mode bits rules batch state twin entries slots planned rewrites erased in
+    let writes = restart_writes (proposal mode bits rules batch) state twin entries slots planned rewrites erased in
     let are = passed device_slots mode bits rules batch state done left twin live_ids slots entries planned rewrites erased plan in (
       λ front some. front_leads before (bits_with mode rules batch bits) (needs_drain mode bits rules batch wide) wide writes are front some.0 some.1,
       all_lead before (bits_with mode rules batch bits) (needs_drain mode bits rules batch wide) wide writes are,

@@ -4,6 +4,7 @@ use Rattle.rule_store.specs.Batch.{set_after}
 use Rattle.tcam_device.specs.Flight.{Pipeline, actions_in, writes_in}
 use Rattle.tcam_device.specs.Hitless.{ShowsOldOrNew}
 use Rattle.tcam_device.specs.State.{State, state_after, on_device}
+use Rattle.commit_writes.specs.Proposal.{proposal}
 use Rattle.commit_writes.specs.Bits.{bits_with}
 use Rattle.commit_writes.specs.Segments.{live_behind}
 use Rattle.commit_writes.proofs.Seen.{seen, fewer}
@@ -19,7 +20,7 @@ restarts_show device_slots mode bits rules batch state done left twin live slots
     let wide = on_device device_slots state in
     let line : Pipeline = record { state = wide; flight = flight } in
     let before = stopped_ranges mode bits rules batch wide in
-    let writes = restart_writes mode bits rules batch state twin entries slots planned rewrites erased in
+    let writes = restart_writes (proposal mode bits rules batch) state twin entries slots planned rewrites erased in
     let leads = (restarts_serve device_slots mode bits rules batch state done left twin live slots entries planned rewrites erased plan).0 (actions_in events) front in
     let same : writes ≡ writes_in (actions_in events) ++ writes_in front.0 =
     sym (writes_of_commit (needs_drain mode bits rules batch wide) writes) ∙ ap writes_in front.1 ∙ writes_in-append (actions_in events) front.0 in

@@ -17,6 +17,7 @@ use Rattle.placement.specs.declared.LivePiece.{LivePiece}
 use Rattle.tcam_device.specs.declared.Write.{Write}
 use Rattle.tcam_device.specs.State.{State, IsState, IsInUse, state_after, on_device}
 use Rattle.tcam_device.proofs.Wider.{slot-padded, slots-after}
+use Rattle.commit_writes.specs.Proposal.{proposal}
 use Rattle.commit_writes.specs.declared.Rewrite.{Rewrite}
 use Rattle.commit_writes.specs.Bits.{FieldBits, bits_with}
 use Rattle.commit_writes.specs.Planned.{IdEntries, Planned}
@@ -24,6 +25,7 @@ use Rattle.commit_writes.specs.Serving.{AreServing}
 use Rattle.commit_writes.proofs.Front.{front_in_use}
 use Rattle.commit_writes.proofs.ServedTables.{IsBitsStart, tables_serve, words_done}
 use Rattle.commit_writes.proofs.SlotWrites.{AreToSlots, tables_left}
+use Rattle.readback.specs.Halt.{halt_at, parts_as_planned}
 use Rattle.readback.specs.Tasks.{Task, CommitPieces, commit_pieces}
 use Rattle.readback.specs.Stage.{IsCommitAt, IsTwinSlot}
 use Rattle.readback.specs.Going.{twin_writes}
@@ -73,7 +75,7 @@ same_without a b (Some at) same = ap (λ (held : List (Option Entry)). (state_af
 
 module _ (device_slots : ℕ) (mode : Mode) (bits : FieldBits) (rules : List Rule) (batch : List Command) (state : State) (done left : List Task) (twin : Option ℕ)
     (live : List LivePiece) (slots : Slots) (entries : IdEntries) (planned : List Planned) (rewrites : List Rewrite) (erased : List ℕ)
-    (plan : IsPlannedRestart device_slots mode bits rules batch state done left twin live slots entries planned rewrites erased) where
+    (plan : IsPlannedRestart device_slots (proposal mode bits rules batch) state (halt_at done left twin) live slots entries (parts_as_planned planned rewrites erased)) where
   abbrev wide : State
   wide = on_device device_slots state
 
@@ -119,7 +121,7 @@ module _ (device_slots : ℕ) (mode : Mode) (bits : FieldBits) (rules : List Rul
   start_slots : start.slots ≡ (state_after state (twin_writes twin)).slots
   start_slots = same_without behind state twin same_slots
 
-  pub start_plan : IsPlannedRest mode bits rules batch start left live slots entries planned rewrites erased
+  pub start_plan : IsPlannedRest (proposal mode bits rules batch) start left live slots entries planned rewrites erased
   start_plan = record {
     mirrors = start_slots ∙ plan.rest.mirrors;
     stands = plan.rest.stands;

@@ -14,6 +14,7 @@ use Rattle.tcam_device.specs.declared.Write.{Write}
 use Rattle.tcam_device.specs.Flight.{Pipeline, actions_in, writes_in}
 use Rattle.tcam_device.specs.Insertion.{table_writes}
 use Rattle.tcam_device.specs.State.{State, state_after, on_device}
+use Rattle.commit_writes.specs.Proposal.{proposal}
 use Rattle.commit_writes.specs.Actions.{have_bits}
 use Rattle.commit_writes.specs.Bits.{FieldBits, bits_with, new_bits}
 use Rattle.commit_writes.specs.Commit.{IsSegment}
@@ -133,7 +134,7 @@ restarts_stopped device_slots mode bits rules batch state done left twin live sl
     p = commit_pieces mode bits rules batch
 
     writes : List Write
-    writes = restart_writes mode bits rules batch state twin entries slots planned rewrites erased
+    writes = restart_writes (proposal mode bits rules batch) state twin entries slots planned rewrites erased
 
     begun : IsBitsStart mode bits rules batch wide
     begun = start device_slots mode bits rules batch state done left twin live slots entries planned rewrites erased plan

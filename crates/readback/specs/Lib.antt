@@ -1,5 +1,6 @@
 pub mod Judged
 pub mod Tasks
+pub mod Halt
 pub mod Stage
 pub mod Fault
 pub mod Going

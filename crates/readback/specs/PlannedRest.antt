@@ -12,6 +12,7 @@ use Rattle.placement.specs.declared.LivePiece.{LivePiece}
 use Rattle.tcam_device.specs.declared.Write.{Write}
 use Rattle.tcam_device.specs.State.{State, IsState, on_device}
 use Rattle.tcam_device.specs.Insertion.{IsWithinTightBound}
+use Rattle.commit_writes.specs.Proposal.{Proposal, proposal}
 use Rattle.commit_writes.specs.declared.Rewrite.{Rewrite}
 use Rattle.commit_writes.specs.Bits.{FieldBits, bits_with, new_bits}
 use Rattle.commit_writes.specs.Shape.{bit_writes}
@@ -26,9 +27,9 @@ use Rattle.readback.specs.Standing.{HaveStandingIds}
 -- What is left of a stage without a twin, as it was planned: the pieces that stand have an id each, in order, and the state
 -- shows these; each piece that is still to come is one insertion; each that gets a result has its id with its new entry;
 -- and each that goes has its id. All pieces have the bits that are live meanwhile.
-pub record IsPlannedRest (mode : Mode) (bits : FieldBits) (rules : List Rule) (batch : List Command) (state : State) (left : List Task) (live : List LivePiece) (slots : Slots) (entries : IdEntries) (planned : List Planned) (rewrites : List Rewrite) (erased : List ℕ) : Type 0 where
+pub record IsPlannedRest (asked : Proposal) (state : State) (left : List Task) (live : List LivePiece) (slots : Slots) (entries : IdEntries) (planned : List Planned) (rewrites : List Rewrite) (erased : List ℕ) : Type 0 where
   pub mirrors : state.slots ≡ contents entries slots
-  pub stands : HaveStandingIds (commit_pieces mode bits rules batch) live slots entries
+  pub stands : HaveStandingIds (commit_pieces asked.mode asked.bits asked.rules asked.batch) live slots entries
   pub inserted : map ranked_of planned ≡ filter_map inserted_by left
   pub have_entries : AllByRecursion (λ insertion. entry_at entries insertion.one.id ≡ Some (entry_for (ranked_of insertion))) planned
   pub are_planned : ArePlanned live slots planned
@@ -40,9 +41,9 @@ abbrev pub rest_words : Mode → FieldBits → List Rule → List Command → St
 rest_words mode bits rules batch state = bit_writes state (new_bits bits (bits_with mode rules batch bits))
 
 -- all that is written at a restart: the table words that differ, the erase of the twin, and the planned rest
-abbrev pub restart_writes : Mode → FieldBits → List Rule → List Command → State → Option ℕ → IdEntries → Slots → List Planned → List Rewrite → List ℕ → List Write
-restart_writes mode bits rules batch state twin entries slots planned rewrites erased =
-    rest_words mode bits rules batch state ++ (twin_writes twin ++ batch_writes entries slots planned rewrites erased)
+abbrev pub restart_writes : Proposal → State → Option ℕ → IdEntries → Slots → List Planned → List Rewrite → List ℕ → List Write
+restart_writes asked state twin entries slots planned rewrites erased =
+    rest_words asked.mode asked.bits asked.rules asked.batch state ++ (twin_writes twin ++ batch_writes entries slots planned rewrites erased)
 
 -- From a state on, which is a stage without a twin, some writes have the shape of what is left, pass only stages, end with no
 -- task left, and each of their insertions is within the bound.
@@ -58,5 +59,5 @@ PlannedRestsPassStages =
     (live : List LivePiece) (slots : Slots) (entries : IdEntries) (planned : List Planned) (rewrites : List Rewrite) (erased : List ℕ)
     → CanCommit mode bits rules batch → IsState (length state.slots) state
     → IsCommitAt (length slots) mode bits rules batch (on_device device_slots state) done left → IsTwinSlot (on_device device_slots state).slots None
-    → IsPlannedRest mode bits rules batch state left live slots entries planned rewrites erased
-    → AreRestWrites (length slots) mode bits rules batch (on_device device_slots state) left (restart_writes mode bits rules batch state None entries slots planned rewrites erased)
+    → IsPlannedRest (proposal mode bits rules batch) state left live slots entries planned rewrites erased
+    → AreRestWrites (length slots) mode bits rules batch (on_device device_slots state) left (restart_writes (proposal mode bits rules batch) state None entries slots planned rewrites erased)

@@ -11,6 +11,7 @@ use Rattle.tcam_device.specs.declared.Action.{Action}
 use Rattle.tcam_device.specs.declared.Write.{Write}
 use Rattle.tcam_device.specs.Flight.{Event, Flight, Pipeline, MayGo, actions_in, searches}
 use Rattle.tcam_device.specs.State.{State, IsState, on_device}
+use Rattle.commit_writes.specs.Proposal.{proposal}
 use Rattle.commit_writes.specs.declared.Rewrite.{Rewrite}
 use Rattle.commit_writes.specs.Actions.{commit_actions, with_drain}
 use Rattle.commit_writes.specs.Bits.{FieldBits, bits_with}
@@ -19,6 +20,7 @@ use Rattle.commit_writes.specs.InFlight.{AreCurrent, IsLookUp, IsOldOrNew, Serve
 use Rattle.commit_writes.specs.Planned.{IdEntries, Planned}
 use Rattle.commit_writes.specs.Segments.{IsFrontOf, MayBegin, live_behind}
 use Rattle.commit_writes.specs.Shape.{inserted_pieces}
+use Rattle.readback.specs.Halt.{halt_at, parts_as_planned}
 use Rattle.readback.specs.Tasks.{Task, stands_in}
 use Rattle.readback.specs.Stage.{IsCommitAt}
 use Rattle.readback.specs.Going.{needs_drain}
@@ -50,10 +52,10 @@ abbrev pub PlannedRestartsServe : Type 0
 PlannedRestartsServe =
     (device_slots : ℕ) (mode : Mode) (bits : FieldBits) (rules : List Rule) (batch : List Command) (state : State) (done left : List Task) (twin : Option ℕ)
     (live : List LivePiece) (slots : Slots) (entries : IdEntries) (planned : List Planned) (rewrites : List Rewrite) (erased : List ℕ)
-    → IsPlannedRestart device_slots mode bits rules batch state done left twin live slots entries planned rewrites erased
+    → IsPlannedRestart device_slots (proposal mode bits rules batch) state (halt_at done left twin) live slots entries (parts_as_planned planned rewrites erased)
     → let wide = on_device device_slots state in
     let before = stopped_ranges mode bits rules batch wide in
-    let actions = restart_actions mode bits rules batch wide (restart_writes mode bits rules batch state twin entries slots planned rewrites erased) in
+    let actions = restart_actions mode bits rules batch wide (restart_writes (proposal mode bits rules batch) state twin entries slots planned rewrites erased) in
     ((front : List Action) → IsFrontOf front actions → LeadsTo before wide front (live_behind before (bits_with mode rules batch bits) front))
     × LeadsTo before wide actions (bits_with mode rules batch bits)
 
@@ -64,10 +66,10 @@ abbrev pub PlannedRestartsShowOldOrNew : Type 0
 PlannedRestartsShowOldOrNew =
     (device_slots : ℕ) (mode : Mode) (bits : FieldBits) (rules : List Rule) (batch : List Command) (state : State) (done left : List Task) (twin : Option ℕ)
     (live : List LivePiece) (slots : Slots) (entries : IdEntries) (planned : List Planned) (rewrites : List Rewrite) (erased : List ℕ) (flight : Flight) (events : List Event)
-    → IsPlannedRestart device_slots mode bits rules batch state done left twin live slots entries planned rewrites erased
+    → IsPlannedRestart device_slots (proposal mode bits rules batch) state (halt_at done left twin) live slots entries (parts_as_planned planned rewrites erased)
     → let wide = on_device device_slots state in
     let line : Pipeline = record { state = wide; flight = flight } in
-    IsFrontOf (actions_in events) (restart_actions mode bits rules batch wide (restart_writes mode bits rules batch state twin entries slots planned rewrites erased))
+    IsFrontOf (actions_in events) (restart_actions mode bits rules batch wide (restart_writes (proposal mode bits rules batch) state twin entries slots planned rewrites erased))
     → AreCurrent (stopped_ranges mode bits rules batch wide) flight → MayGo line events
     → AllByRecursion IsLookUp (searches line events) × AllByRecursion (IsOldOrNew rules (set_after rules batch)) (searches line events)
 
@@ -85,9 +87,9 @@ abbrev pub StoppedRestartsAreCurrent : Type 0
 StoppedRestartsAreCurrent =
     (device_slots : ℕ) (mode : Mode) (bits : FieldBits) (rules : List Rule) (batch : List Command) (state : State) (done left : List Task) (twin : Option ℕ)
     (live : List LivePiece) (slots : Slots) (entries : IdEntries) (planned : List Planned) (rewrites : List Rewrite) (erased : List ℕ) (flight : Flight) (events : List Event)
-    → IsPlannedRestart device_slots mode bits rules batch state done left twin live slots entries planned rewrites erased
+    → IsPlannedRestart device_slots (proposal mode bits rules batch) state (halt_at done left twin) live slots entries (parts_as_planned planned rewrites erased)
     → let wide = on_device device_slots state in
     let line : Pipeline = record { state = wide; flight = flight } in
-    IsFrontOf (actions_in events) (restart_actions mode bits rules batch wide (restart_writes mode bits rules batch state twin entries slots planned rewrites erased))
+    IsFrontOf (actions_in events) (restart_actions mode bits rules batch wide (restart_writes (proposal mode bits rules batch) state twin entries slots planned rewrites erased))
     → AreCurrent (stopped_ranges mode bits rules batch wide) flight → MayGo line events
     → AreCurrent (stopped_ranges mode bits rules batch (after_events line events).state) (after_events line events).flight

@@ -1,67 +1,44 @@
 -- What actions of a commit under way leave of the manager.
-use Rattle.std.proofs.Common.{◌≡◌, ℕ, List, [], ◌∷◌, ◌++◌, map, Option, Some, None, IsSome, IfSome, refl, sym, ap, ◌∙◌, subst, append_assoc}
+use Rattle.std.proofs.Common.{◌≡◌, ℕ, List, [], ◌∷◌, ◌++◌, Option, Some, None, IsSome, IfSome, refl, sym, ap, ◌∙◌, subst, append_assoc}
 use Rattle.tcam_device.specs.declared.Write.{Write}
 use Rattle.tcam_device.specs.declared.Action.{Action}
 use Rattle.tcam_device.specs.declared.Action.TheVariants.{Written, Drained}
 use Rattle.tcam_device.specs.State.{apply, replay}
 use Rattle.tcam_device.specs.Flight.{writes_in}
 use Rattle.tcam_device.specs.Hitless.{ShowsOldOrNew}
-use Rattle.commit_writes.proofs.WritesIn.{writes_of_map, writes_in-append}
-use Rattle.batch_order.specs.Managed.{HeldCommit, Managed, Serves, actions_due, writes_due}
-use Rattle.batch_order.specs.CarriedOut.{StopsAt, StopsBy, acted, acted_by, actions_left, ahead, ahead_of, back_by, forward_by, writes_left}
+use Rattle.commit_writes.proofs.WritesIn.{writes_in-append}
+use Rattle.batch_order.specs.Managed.{HeldCommit, Managed, Serves}
+use Rattle.batch_order.specs.CarriedOut.{StopsAt, StopsBy, acted, acted_by, acted_on, ahead, ahead_of, writes_left}
 use Rattle.batch_order.specs.declared.Unfinished.{Unfinished}
 use Rattle.batch_order.specs.declared.Unfinished.TheVariants.{Stuck}
 use Rattle.batch_order.specs.Steps.{next_of}
+use Rattle.batch_order.proofs.under_way.Onward.{acted_one}
 use Rattle.route_daemon.specs.Served.{IsStuck}
 
--- the commit is still under way, to the same rules and the same way, and the rules are the same
+-- the commit is still under way, to the same rules, and the rules are the same
 record IsOnWay (old : Managed) (held : HeldCommit) (now : Managed) : Type 0 where
   pub one : HeldCommit
   pub under_way : now.held ≡ Some one
   pub leads : one.rules ≡ held.rules
-  pub turned : one.turned ≡ held.turned
   pub rules : now.rules ≡ old.rules
 
 acted-once : (old : Managed) (held : HeldCommit) (action : Action) → old.held ≡ Some held → IsOnWay old held (acted_by old action)
-acted-once old held action under = subst (IsOnWay old held) (sym (ap by under)) (way held.turned refl)
+acted-once old held action under = subst (IsOnWay old held) (sym (acted_one old held action under)) (on action)
   where
-    by : Option HeldCommit → Managed
-    by one = elim one [ None ↦ old | Some held ↦ elim held.turned [ None ↦ forward_by old held action | Some undone ↦ back_by old held action ] ]
-
-    on : (one : Action) → IsOnWay old held (forward_by old held one)
-    on (Written write) = record { one = _; under_way = refl; leads = refl; turned = refl; rules = refl }
-    on Drained = record { one = _; under_way = refl; leads = refl; turned = refl; rules = refl }
-
-    back : (one : Action) → IsOnWay old held (back_by old held one)
-    back (Written write) = record { one = _; under_way = refl; leads = refl; turned = refl; rules = refl }
-    back Drained = record { one = held; under_way = under; leads = refl; turned = refl; rules = refl }
-
-    way : (turned : Option ℕ) → held.turned ≡ turned → IsOnWay old held (by (Some held))
-    way None is = subst (IsOnWay old held) (sym (ap (λ t. elim t [ None ↦ forward_by old held action | Some undone ↦ back_by old held action ]) is)) (on action)
-    way (Some undone) is = subst (IsOnWay old held) (sym (ap (λ t. elim t [ None ↦ forward_by old held action | Some undone ↦ back_by old held action ]) is)) (back action)
+    on : (one : Action) → IsOnWay old held (acted_on old held one)
+    on (Written write) = record { one = _; under_way = refl; leads = refl; rules = refl }
+    on Drained = record { one = _; under_way = refl; leads = refl; rules = refl }
 
 acted-keeps : (actions : List Action) (old : Managed) (held : HeldCommit) → old.held ≡ Some held → IsOnWay old held (acted old actions)
-acted-keeps [] old held under = record { one = held; under_way = under; leads = refl; turned = refl; rules = refl }
+acted-keeps [] old held under = record { one = held; under_way = under; leads = refl; rules = refl }
 acted-keeps (action ∷ actions) old held under =
     let first = acted-once old held action under in
     let rest = acted-keeps actions (acted_by old action) first.one first.under_way in record {
       one = rest.one;
       under_way = rest.under_way;
       leads = rest.leads ∙ first.leads;
-      turned = rest.turned ∙ first.turned;
       rules = rest.rules ∙ first.rules;
     }
-
-due-writes : (held : HeldCommit) → writes_in (actions_due held) ≡ writes_due held
-due-writes held = go held.turned
-  where
-    go : (turned : Option ℕ) → writes_in (elim turned [ None ↦ held.actions | Some undone ↦ map Written held.undo ]) ≡ (elim turned [ None ↦ writes_in held.actions | Some undone ↦ held.undo ])
-    go None = refl
-    go (Some undone) = writes_of_map held.undo
-
-left-writes : (held : Option HeldCommit) → writes_in (actions_left held) ≡ writes_left held
-left-writes None = refl
-left-writes (Some held) = due-writes held
 
 module _ (old new : Managed) (before after : List Write) (left : ℕ) (stops : StopsAt old new before after left) where
   way : IsOnWay old stops.held new
@@ -71,8 +48,8 @@ module _ (old new : Managed) (before after : List Write) (left : ℕ) (stops : S
   stopped-made : after ++ writes_left new.held ≡ before ++ writes_left old.held
   stopped-made =
       let parts : writes_in stops.made ++ writes_left new.held ≡ writes_left old.held =
-      ap (λ writes. writes_in stops.made ++ writes) (sym (left-writes new.held) ∙ ap writes_in stops.rest_is)
-      ∙ sym (writes_in-append stops.made stops.rest) ∙ ap writes_in stops.parts ∙ due-writes stops.held ∙ ap writes_left (sym stops.under_way) in
+      ap (λ actions. writes_in stops.made ++ writes_in actions) stops.rest_is
+      ∙ sym (writes_in-append stops.made stops.rest) ∙ ap writes_in stops.parts ∙ ap writes_left (sym stops.under_way) in
       ap (λ writes. writes ++ writes_left new.held) stops.journal
       ∙ append_assoc before (writes_in stops.made) (writes_left new.held)
       ∙ ap (λ writes. before ++ writes) parts

@@ -29,7 +29,7 @@ IsNetwork network =
 
 -- the batch takes no command more
 abbrev pub TakesNoMore : List Command → Type 0
-TakesNoMore batch = length batch ≡ most_pending
+TakesNoMore batch = most_pending ≤ length batch
 
 -- the block of a network
 abbrev pub network_block : Network → AddressBlock

@@ -51,7 +51,7 @@ pub enum CommitFault {
 }
 
 /// Adds a route in the pending batch: packets to the network go to `port`. It is refused exactly where that is no
-/// prefix, too long or with a bit set past its length, else exactly where the batch has 4,096 commands, and else only
+/// prefix, too long or with a bit set past its length, else exactly where the batch has 4,096 commands or more, and else only
 /// for want of memory. After a refusal the batch is as before.
 ///
 /// Which routes there are is judged by [`commit`]. It refuses a batch that adds a route for a prefix that has one, or

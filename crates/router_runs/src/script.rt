@@ -6,7 +6,7 @@ ghost use Rattle.script_lines.specs.Given.{GivesPieces, counted};
 ghost use Rattle.script_lines.specs.declared.Over.TheVariants.{Going};
 ghost use Rattle.script_runs.specs.Script.{Whole};
 ghost use Rattle.script_runs.specs.Outcomes.{status_at};
-ghost use Rattle.script_runs.specs.Rounds.{RoundsBy};
+ghost use Rattle.script_runs.specs.Rounds.{RoundsBy, outputs};
 ghost use Rattle.split_device.specs.Flight.{no_flight};
 ghost use Rattle.report_lines.specs.Text.{fault_line};
 ghost use Rattle.router.specs.Run.{ending, start};
@@ -98,7 +98,7 @@ fn round<S: Source, K: Sink, D: SplitDevice>(
     ensures setting { setting_of router.new ≡ setting_of router.old }
     ensures gives { (pieces : List (List ℕ)) × GivesPieces (S.given source.old) (S.given source.new) (S.left source.old) (S.left source.new) pieces
         × ((which : Bool) → RoundsBy (router_kind (router_reading router.old.version) (setting_of router.old) (slots_of (D.slot_count list.old) (D.slot_count routes.old))) lines.old (progress_of router.old) pieces result
-        lines.new (progress_of router.new) (made_on (D.events list.old) (D.events routes.old)) (made_on (D.events list.new) (D.events routes.new)) (counted which (K.taken sink.old) (K.accepted sink.old)) (counted which (K.taken sink.new) (K.accepted sink.new)))
+        lines.new (progress_of router.new) (outputs (made_on (D.events list.old) (D.events routes.old)) (counted which (K.taken sink.old) (K.accepted sink.old))) (outputs (made_on (D.events list.new) (D.events routes.new)) (counted which (K.taken sink.new) (K.accepted sink.new))))
         × (result ≡ Some Status.DeviceFault → StopsAtPart (router_kind (router_reading router.old.version) (setting_of router.old) (slots_of (D.slot_count list.old) (D.slot_count routes.old))) lines.old (progress_of router.old) pieces (failed_side router.new)
         (made_on (D.events list.old) (D.events routes.old)) (made_on (D.events list.new) (D.events routes.new)) (K.taken sink.old)) }
     ensures rests { lines.old.over ≢ Going → (S.left source.new ≡ S.left source.old) × (lines.new ≡ lines.old) }

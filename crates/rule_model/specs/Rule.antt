@@ -70,12 +70,23 @@ abbrev pub protos_meet : Option ℕ → Option ℕ → Bool
 protos_meet None other = true
 protos_meet (Some proto) other = proto_holds other proto
 
--- some key is held by both fives of conditions
-abbrev pub conditions_meet : AddressBlock → AddressBlock → Option ℕ → PortRange → PortRange → AddressBlock → AddressBlock → Option ℕ → PortRange → PortRange → Bool
-conditions_meet src dst proto sport dport src' dst' proto' sport' dport' =
-    blocks_meet src src' && blocks_meet dst dst' && protos_meet proto proto' && not (is_disjoint sport sport')
-    && not (is_disjoint dport dport')
+-- the conditions of a rule or of a piece
+pub record Conditions : Type 0 where
+  pub src : AddressBlock
+  pub dst : AddressBlock
+  pub proto : Option ℕ
+  pub sport : PortRange
+  pub dport : PortRange
+
+-- some key is held by both of them
+abbrev pub conditions_meet : Conditions → Conditions → Bool
+conditions_meet a b =
+    blocks_meet a.src b.src && blocks_meet a.dst b.dst && protos_meet a.proto b.proto && not (is_disjoint a.sport b.sport)
+    && not (is_disjoint a.dport b.dport)
+
+abbrev pub rule_conditions : Rule → Conditions
+rule_conditions rule = record { src = rule.src; dst = rule.dst; proto = rule.proto; sport = rule.sport; dport = rule.dport }
 
 -- A test for Overlap, of rules whose blocks and ranges are right.
 abbrev pub rules_meet : Rule → Rule → Bool
-rules_meet a b = conditions_meet a.src a.dst a.proto a.sport a.dport b.src b.dst b.proto b.sport b.dport
+rules_meet a b = conditions_meet (rule_conditions a) (rule_conditions b)

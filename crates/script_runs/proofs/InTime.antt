@@ -13,7 +13,7 @@ use Rattle.script_runs.specs.declared.Status.TheVariants.{Memory}
 use Rattle.script_runs.specs.Script.{Script, ScriptKind, NumberedAct, Whole, acts_of}
 use Rattle.script_runs.specs.Outcomes.{RunKind, Runs}
 use Rattle.script_runs.specs.InTime.{given_so_far, IsInTime, WantsInTime, ReadsLinesInTime}
-use Rattle.script_runs.specs.Rounds.{IsGoing, IsReadSoFar, acts_only, SoFar, Grows, RoundsBy}
+use Rattle.script_runs.specs.Rounds.{IsGoing, IsReadSoFar, acts_only, SoFar, Grows, RoundsBy, outputs}
 use Rattle.script_runs.proofs.Joined.{AreJoined, does-events, does-report}
 use Rattle.script_runs.proofs.NextLines.{so-far}
 
@@ -147,7 +147,7 @@ begins-more scripts pieces old new more grown is =
     (some ++ more, grown ∙ ap (λ l. l ++ more) first ∙ append_assoc (acts_of (given_so_far scripts front)) some more)
 
 pub stands-next : {A C P E W V : Type 0} (kind : RunKind A C P E W V) (p q : List (List ℕ)) (old : HeldBytes) (before : P) (new : HeldBytes) (after : P) (events_old events_new : V) (start mid end : Option (List ℕ)) (left now : List ℕ)
-    → RoundsBy kind old before q None new after events_old events_new mid end → MayGive left (p ++ q) now
+    → RoundsBy kind old before q None new after (outputs events_old mid) (outputs events_new end) → MayGive left (p ++ q) now
     → StandsAt kind p left old (concat q ++ now) before events_old start mid → StandsAt kind (p ++ q) left new now after events_new start end
 stands-next kind p q old before new after events_old events_new start mid end left now round may s =
     let on = round.goes left (concat q ++ now) now start (may-second left now p q may) s.so_far in
@@ -163,7 +163,7 @@ WantsAll kind pieces events accepted_old accepted_new =
     (front : List (List ℕ)) (last : List ℕ) → pieces ≡ front ++ last ∷ [] → (left after : List ℕ) → MayGive left pieces after → WantsInTime kind front left events accepted_old accepted_new
 
 pub wants-in-time : {A C P E W V : Type 0} (kind : RunKind A C P E W V) (joins : AreJoined kind.line kind.printed kind.events_in kind.joined) (p q : List (List ℕ)) (old : HeldBytes) (before : P) (status : Status) (new : HeldBytes) (after : P) (events_old events_new : V) (accepted_old accepted_mid accepted_new left now front_last : List ℕ) (front : List (List ℕ))
-    → RoundsBy kind old before q (Some status) new after events_old events_new (Some accepted_mid) (Some accepted_new) → status ≡ Memory → MayGive left (p ++ q) now
+    → RoundsBy kind old before q (Some status) new after (outputs events_old (Some accepted_mid)) (outputs events_new (Some accepted_new)) → status ≡ Memory → MayGive left (p ++ q) now
     → StandsAt kind p left old (concat q ++ now) before events_old (Some accepted_old) (Some accepted_mid) → p ++ q ≡ front ++ front_last ∷ []
     → WantsInTime kind front left events_new accepted_old accepted_new
 wants-in-time kind joins p q old before status new after events_old events_new accepted_old accepted_mid accepted_new left now last front round memory may s is =

@@ -16,7 +16,7 @@ use Rattle.script_runs.specs.declared.Status.{Status}
 use Rattle.script_runs.specs.declared.Status.TheVariants.{Memory}
 use Rattle.script_runs.specs.Script.{script_of, script_so_far}
 use Rattle.script_runs.specs.Outcomes.{RunKind, IsOutcome, MatchesOutcome}
-use Rattle.script_runs.specs.Rounds.{IsGoing, SoFar, EndsRun, RoundsBy, RunsOn, WantsNext, Grows}
+use Rattle.script_runs.specs.Rounds.{IsGoing, SoFar, EndsRun, RoundsBy, RunsOn, WantsNext, Grows, outputs}
 
 -- ---- before the first
 
@@ -56,7 +56,7 @@ pub rounds-some : {A C P E W V : Type 0} (kind : RunKind A C P E W V) (old : Hel
     → ((bytes left now : List ℕ) (start : Option (List ℕ)) → MayGive left pieces now → SoFar kind bytes old left before events_old start taken_old → Grows kind.joined events_old events_new taken_old taken_new)
     → ((bytes taken left now : List ℕ) (start : Option (List ℕ)) → MayGive left pieces now → bytes ≡ taken ++ now → SoFar kind bytes old left before events_old start taken_old → EndsRun kind bytes taken now status events_new start taken_new)
     → (Some status ≡ Some Memory → (bytes left now : List ℕ) (start : Option (List ℕ)) → MayGive left pieces now → (s : SoFar kind bytes old left before events_old start taken_old) → WantsNext kind s.acts bytes before events_old events_new taken_old taken_new)
-    → RoundsBy kind old before pieces (Some status) new after events_old events_new taken_old taken_new
+    → RoundsBy kind old before pieces (Some status) new after (outputs events_old taken_old) (outputs events_new taken_new)
 rounds-some kind old before pieces answer held status new after events_old events_new taken_old taken_new by grows ends wants =
     record { goes = tt; ends = ends; wants = wants; ended = λ _. tt; rests = by.rests; last = by.last; grows = grows }
 
@@ -65,7 +65,7 @@ pub rounds-other : {A C P E W V : Type 0} (kind : RunKind A C P E W V) (old : He
     → HandsByGiven old pieces answer held → status ≢ Memory
     → ((bytes left now : List ℕ) (start : Option (List ℕ)) → MayGive left pieces now → SoFar kind bytes old left before events_old start taken_old → Grows kind.joined events_old events_new taken_old taken_new)
     → ((bytes taken left now : List ℕ) (start : Option (List ℕ)) → MayGive left pieces now → bytes ≡ taken ++ now → SoFar kind bytes old left before events_old start taken_old → EndsRun kind bytes taken now status events_new start taken_new)
-    → RoundsBy kind old before pieces (Some status) new after events_old events_new taken_old taken_new
+    → RoundsBy kind old before pieces (Some status) new after (outputs events_old taken_old) (outputs events_new taken_new)
 rounds-other kind old before pieces answer held status new after events_old events_new taken_old taken_new by other grows ends =
     rounds-some kind old before pieces answer held status new after events_old events_new taken_old taken_new by grows ends (λ e. absurd (other (cc)))
 
@@ -74,7 +74,7 @@ pub rounds-none : {A C P E W V : Type 0} (kind : RunKind A C P E W V) (old : Hel
     → HandsByGiven old pieces answer new
     → ((bytes left now : List ℕ) (start : Option (List ℕ)) → MayGive left pieces now → SoFar kind bytes old left before events_old start taken_old → Grows kind.joined events_old events_new taken_old taken_new)
     → ((bytes left now : List ℕ) (start : Option (List ℕ)) → MayGive left pieces now → (s : SoFar kind bytes old left before events_old start taken_old) → RunsOn kind s.acts bytes new now after events_new start taken_new)
-    → RoundsBy kind old before pieces None new after events_old events_new taken_old taken_new
+    → RoundsBy kind old before pieces None new after (outputs events_old taken_old) (outputs events_new taken_new)
 rounds-none kind old before pieces answer new after events_old events_new taken_old taken_new by grows goes =
     record { goes = goes; ends = tt; wants = λ e. absurd (cc); ended = by.ended; rests = by.rests; last = by.last; grows = grows }
 

@@ -93,16 +93,24 @@ pub record WantsNext {A C P E W V : Type 0} (kind : RunKind A C P E W V) (acts :
   pub needs : kind.TakesMemory before act effects
   pub does : Does kind effects [] events_old events_new taken_old taken_new
 
+-- what has come of a run at a moment: what devices tell, and what a sink has taken of the report, where that is counted
+pub record Outputs (V : Type 0) : Type 0 where
+  pub events : V
+  pub taken : Option (List ℕ)
+
+abbrev pub outputs : {V : Type 0} → V → Option (List ℕ) → Outputs V
+outputs events taken = record { events = events; taken = taken }
+
 -- what a round of a run comes to, whatever bytes come after those that were given in it
-pub record RoundsBy {A C P E W V : Type 0} (kind : RunKind A C P E W V) (old : HeldBytes) (before : P) (pieces : List (List ℕ)) (result : Option Status) (new : HeldBytes) (after : P) (events_old events_new : V) (taken_old taken_new : Option (List ℕ)) : Type 0 where
+pub record RoundsBy {A C P E W V : Type 0} (kind : RunKind A C P E W V) (old : HeldBytes) (before : P) (pieces : List (List ℕ)) (result : Option Status) (new : HeldBytes) (after : P) (was comes : Outputs V) : Type 0 where
   pub goes : IfNone result ((bytes left now : List ℕ) (start : Option (List ℕ)) → MayGive left pieces now
-      → (so_far : SoFar kind bytes old left before events_old start taken_old) → RunsOn kind so_far.acts bytes new now after events_new start taken_new)
+      → (so_far : SoFar kind bytes old left before was.events start was.taken) → RunsOn kind so_far.acts bytes new now after comes.events start comes.taken)
   pub ends : IfSome result (λ status. (bytes taken left now : List ℕ) (start : Option (List ℕ)) → MayGive left pieces now → bytes ≡ taken ++ now
-      → SoFar kind bytes old left before events_old start taken_old → EndsRun kind bytes taken now status events_new start taken_new)
+      → SoFar kind bytes old left before was.events start was.taken → EndsRun kind bytes taken now status comes.events start comes.taken)
   pub wants : result ≡ Some Memory → (bytes left now : List ℕ) (start : Option (List ℕ)) → MayGive left pieces now
-      → (so_far : SoFar kind bytes old left before events_old start taken_old) → WantsNext kind so_far.acts bytes before events_old events_new taken_old taken_new
+      → (so_far : SoFar kind bytes old left before was.events start was.taken) → WantsNext kind so_far.acts bytes before was.events comes.events was.taken comes.taken
   pub ended : HasEnd pieces → IfNone result (new.over ≡ over.Ended)
   pub rests : old.over ≢ over.Going → pieces ≡ []
   pub last : LastAtOpenLine old.before old.pending pieces
   pub grows : (bytes left now : List ℕ) (start : Option (List ℕ)) → MayGive left pieces now
-      → SoFar kind bytes old left before events_old start taken_old → Grows kind.joined events_old events_new taken_old taken_new
+      → SoFar kind bytes old left before was.events start was.taken → Grows kind.joined was.events comes.events was.taken comes.taken

@@ -12,10 +12,13 @@ use Rattle.tcam_device.specs.declared.Write.TheVariants as whole
 use Rattle.tcam_device.specs.State.{State, IsInUse, apply, on_device}
 use Rattle.tcam_device.specs.declared.Action.{Action}
 use Rattle.tcam_device.specs.declared.Action.TheVariants as action
-use Rattle.commit_writes.specs.Undo.{restoring}
+use Rattle.tcam_device.specs.Insertion.{is_table_write}
 use Rattle.batch_order.specs.declared.Step.{Step}
 use Rattle.batch_order.specs.Managed.{HeldCommit, Managed, live_now}
-use Rattle.batch_order.specs.Steps.{Steps, StepsEither, StepsOn, next_of}
+use Rattle.batch_order.specs.Steps.{Steps, StepsOn, current_by, is_back, next_of, way_by}
+use Rattle.batch_order.specs.Turning.{IsCurrentRight, IsHeldRight}
+use Rattle.batch_order.proofs.back.Turned.{writes_leave_current}
+use Rattle.batch_order.proofs.under_way.Stepped.{same_way}
 use Rattle.batch_order.proofs.under_way.Carried.{on_device-apply}
 use Rattle.split_device.specs.declared.SplitWrite.{SplitWrite}
 use Rattle.split_device.specs.declared.SplitAction.{SplitAction}
@@ -52,32 +55,34 @@ commit_of manager write kept next = go manager.whole.held refl kept next
     go None is k due = absurd (let wrong : None ≡ Some write = due in cc)
     go (Some held) is k due = record { held = held; under_way = is; kept = k }
 
--- the planner behind a write of a commit that goes forward
+-- the planner behind a write
 abbrev pub passed_write : Managed → HeldCommit → Write → List Action → Managed
 passed_write whole held write rest =
-    record whole { state = apply whole.state write; held = Some (record held { actions = rest; undo = restoring whole.state write ∷ held.undo }) }
+    record whole {
+      state = apply whole.state write;
+      held = Some (record held { actions = rest; way = way_by whole.state write held.way; current = current_by whole.bits held.current (is_table_write write) });
+    }
 
-pub passes_write : (whole new : Managed) (held : HeldCommit) (write : Write) (rest : List Action) (words : ℕ) (made : Step) → whole.held ≡ Some held → held.turned ≡ None → held.actions ≡ action.Written write ∷ rest
+pub passes_write : (whole new : Managed) (held : HeldCommit) (write : Write) (rest : List Action) (words : ℕ) (made : Step) → whole.held ≡ Some held → held.actions ≡ action.Written write ∷ rest
     → Steps whole words whole.held made new → new ≡ passed_write whole held write rest
-passes_write whole new held write rest words made under_way forward are steps =
+passes_write whole new held write rest words made under_way are steps =
     let here : Steps whole words (Some held) made new = subst (λ (h : Option HeldCommit). Steps whole words h made new) under_way steps in
-    let on : StepsOn whole held words held.actions made new = subst (λ (t : Option ℕ). StepsEither whole held words t made new) forward here in
-    let did : StepsOn whole held words (action.Written write ∷ rest) made new = subst (λ (a : List Action). StepsOn whole held words a made new) are on in
+    let did : StepsOn whole held words (action.Written write ∷ rest) made new = subst (λ (a : List Action). StepsOn whole held words a made new) are here in
     did.1
 
 -- with where its commit leads as it was
-passed_outline : (whole : Managed) (held : HeldCommit) (write : Write) (rest : List Action) → whole.held ≡ Some held → held.turned ≡ None → held.actions ≡ action.Written write ∷ rest
+passed_outline : (whole : Managed) (held : HeldCommit) (write : Write) (rest : List Action) → whole.held ≡ Some held → held.actions ≡ action.Written write ∷ rest
     → outline (passed_write whole held write rest) ≡ outline whole
-passed_outline whole held write rest under_way forward are =
-    ap (λ (t : Option ℕ). outline (passed_write whole (record held { turned = t }) write rest)) forward
-    ∙ (sym (ap₂ (λ (t : Option ℕ) (a : List Action). outline (record whole { held = Some (record held { turned = t; actions = a }) })) forward are)
-    ∙ ap (λ (h : Option HeldCommit). outline (record whole { held = h })) (sym under_way))
+passed_outline whole held write rest under_way are =
+    sym (ap (λ (a : List Action). outline (record whole { held = Some (record held { actions = a }) })) are)
+    ∙ ap (λ (h : Option HeldCommit). outline (record whole { held = h })) (sym under_way)
 
 -- what is known of the manager behind a part
 pub record IsAdvanced (manager next : SplitManaged) (due : DuePart) : Type 0 where
   pub events : next.events ≡ manager.events ++ Written due.part ∷ []
   pub begun : next.begun ≡ true
   pub counts : next.counts ≡ manager.counts
+  pub right : IsHeldRight manager.whole
   pub on_last : due.last ≡ true → (next.made ≡ 0) × ((made : Step) × Steps manager.whole 0 manager.whole.held made next.whole)
   pub on_more : due.last ≡ false → (next.made ≡ suc manager.made) × (next.whole ≡ manager.whole)
 
@@ -111,7 +116,7 @@ module _ (since since' : Since) (left : ℕ) (m m' : SplitManaged) (kept : IsSpl
   later = behind m one.held one.under_way one.kept write is_due.1 due is_due.3
 
   actions_are : one.held.actions ≡ action.Written write ∷ after
-  actions_are = (has_write one.held write one.kept.forward.1 (ap next_of (sym one.under_way) ∙ is_due.1)).actions_are
+  actions_are = (has_write one.held write (ap next_of (sym one.under_way) ∙ is_due.1)).actions_are
 
   in_use : IsInUse (length m.whole.state.slots) write
   in_use = subst (λ n. IsInUse n write) (sym kept.whole_size) is_due.2
@@ -151,7 +156,7 @@ module _ (since since' : Since) (left : ℕ) (m m' : SplitManaged) (kept : IsSpl
   -- with the last part of a write the planner's write was made
   module _ (last : due.last ≡ true) where
     passed : m'.whole ≡ passed_write m.whole one.held write after
-    passed = passes_write m.whole m'.whole one.held write after 0 (did.on_last last).1.0 one.under_way one.kept.forward.1 actions_are (did.on_last last).1.1
+    passed = passes_write m.whole m'.whole one.held write after 0 (did.on_last last).1.0 one.under_way actions_are (did.on_last last).1.1
 
     none_later : later ≡ []
     none_later = (place m one.held one.under_way one.kept write is_due.1 due is_due.3).last last
@@ -184,12 +189,22 @@ module _ (since since' : Since) (left : ℕ) (m m' : SplitManaged) (kept : IsSpl
     live : live_now m'.whole ≡ live_now m.whole
     held : HeldCommit
     held_is : m'.whole.held ≡ Some held
-    forward : (held.prepared ≡ true) × (held.turned ≡ None)
+    forward : (held.prepared ≡ true) × (is_back held.way ≡ false)
     rules : m'.whole.rules ≡ m.whole.rules
     aims : (held.rules ≡ one.held.rules) × (held.during ≡ one.held.during)
 
   abbrev ahead_held : HeldCommit
-  ahead_held = record one.held { actions = after; undo = restoring m.whole.state write ∷ one.held.undo }
+  ahead_held = record one.held {
+    actions = after;
+    way = way_by m.whole.state write one.held.way;
+    current = current_by m.whole.bits one.held.current (is_table_write write);
+  }
+
+  -- its ranges stay: a word of a table finds those before the commit
+  same_current : current_by m.whole.bits one.held.current (is_table_write write) ≡ one.held.current
+  same_current =
+      writes_leave_current m.whole.bits one.held write after (subst (λ (h : Option HeldCommit). IfSome h (λ x. IsCurrentRight m.whole.bits x)) one.under_way did.right)
+      one.kept.forward.1 actions_are
 
   after_last : due.last ≡ true → IsAfter
   after_last last =
@@ -197,11 +212,11 @@ module _ (since since' : Since) (left : ℕ) (m m' : SplitManaged) (kept : IsSpl
       record {
         slots = ap (λ (w : Managed). w.slots) is;
         size = ap (λ (w : Managed). length w.state.slots) is ∙ (size_after m.whole.state write ∙ (kept.whole_size ∙ sym (ap (λ (w : Managed). w.slots) is)));
-        outline_is = ap outline is ∙ passed_outline m.whole one.held write after one.under_way one.kept.forward.1 actions_are;
-        live = ap live_now is ∙ ap (λ (h : Option HeldCommit). live_now (record m.whole { held = h })) (sym one.under_way);
+        outline_is = ap outline is ∙ passed_outline m.whole one.held write after one.under_way actions_are;
+        live = ap live_now is ∙ (same_current ∙ ap (λ (h : Option HeldCommit). live_now (record m.whole { held = h })) (sym one.under_way));
         held = ahead_held;
         held_is = ap (λ (w : Managed). w.held) is;
-        forward = one.kept.forward;
+        forward = (one.kept.forward.0, same_way m.whole.state write one.held.way ∙ one.kept.forward.1);
         rules = ap (λ (w : Managed). w.rules) is;
         aims = (refl, refl);
       }

@@ -12,7 +12,7 @@ use Rattle.tcam_device.specs.declared.Action.TheVariants as action
 use Rattle.batch_order.specs.declared.Step.{Step}
 use Rattle.batch_order.specs.CarriedOut.{writes_left}
 use Rattle.batch_order.specs.Managed.{HeldCommit, Managed}
-use Rattle.batch_order.specs.Steps.{Steps, StepsEither, StepsOn, awaits_drain, next_of}
+use Rattle.batch_order.specs.Steps.{Steps, StepsOn, awaits_drain, is_back, next_of}
 use Rattle.split_device.specs.declared.SplitWrite.{SplitWrite}
 use Rattle.split_device.specs.declared.SplitAction.{SplitAction}
 use Rattle.split_device.specs.declared.SplitAction.TheVariants.{Written, Drained}
@@ -36,12 +36,11 @@ use Rattle.split_order.proofs.Nexts.{left_held, part_left}
 abbrev pub passed_drain : Managed → HeldCommit → List Action → Managed
 passed_drain whole held rest = record whole { held = Some (record held { actions = rest; current = held.during }) }
 
-passes_drain : (whole new : Managed) (held : HeldCommit) (rest : List Action) (made : Step) → whole.held ≡ Some held → held.turned ≡ None → held.actions ≡ action.Drained ∷ rest
+passes_drain : (whole new : Managed) (held : HeldCommit) (rest : List Action) (made : Step) → whole.held ≡ Some held → held.actions ≡ action.Drained ∷ rest
     → Steps whole 0 whole.held made new → new ≡ passed_drain whole held rest
-passes_drain whole new held rest made under_way forward are steps =
+passes_drain whole new held rest made under_way are steps =
     let here : Steps whole 0 (Some held) made new = subst (λ (h : Option HeldCommit). Steps whole 0 h made new) under_way steps in
-    let on : StepsOn whole held 0 held.actions made new = subst (λ (t : Option ℕ). StepsEither whole held 0 t made new) forward here in
-    let did : StepsOn whole held 0 (action.Drained ∷ rest) made new = subst (λ (a : List Action). StepsOn whole held 0 a made new) are on in
+    let did : StepsOn whole held 0 (action.Drained ∷ rest) made new = subst (λ (a : List Action). StepsOn whole held 0 a made new) are here in
     did.1
 
 -- what is known of the manager behind a drain
@@ -82,16 +81,16 @@ drain_comes m kept first = go m.whole.held refl kept
           under_way = is;
           kept = k;
           comes = of_part write rest are
-              (ap₂ (λ (t : Option ℕ) (a : List Action). next_of (Some (record held { turned = t; actions = a }))) k.forward.1 are)
-              (ap₂ (λ (t : Option ℕ) (a : List Action). awaits_drain (Some (record held { turned = t; actions = a }))) k.forward.1 are);
+              (ap (λ (a : List Action). next_of (Some (record held { actions = a }))) are)
+              (ap (λ (a : List Action). awaits_drain (Some (record held { actions = a }))) are);
         }
         by (action.Drained ∷ rest) are = record {
           held = held;
           under_way = is;
           kept = k;
           comes = of_own rest are
-              (ap₂ (λ (t : Option ℕ) (a : List Action). next_of (Some (record held { turned = t; actions = a }))) k.forward.1 are)
-              (ap₂ (λ (t : Option ℕ) (a : List Action). awaits_drain (Some (record held { turned = t; actions = a }))) k.forward.1 are);
+              (ap (λ (a : List Action). next_of (Some (record held { actions = a }))) are)
+              (ap (λ (a : List Action). awaits_drain (Some (record held { actions = a }))) are);
         }
 
 -- some parts of which so many were made, where more are left
@@ -114,7 +113,7 @@ module _ (since since' : Since) (left : ℕ) (m m' : SplitManaged) (kept : IsSpl
   record IsBehind : Type 0 where
     held : HeldCommit
     held_is : m'.whole.held ≡ Some held
-    forward : (held.prepared ≡ true) × (held.turned ≡ None)
+    forward : (held.prepared ≡ true) × (is_back held.way ≡ false)
     made : (m'.made ≡ 0) ⊎ (m'.made < length (parts_due m'))
     aims : (held.rules ≡ one.held.rules) × (held.during ≡ one.held.during) × (held.bits ≡ one.held.bits)
     writes : writes_left (Some held) ≡ writes_left (Some one.held)
@@ -159,7 +158,7 @@ module _ (since since' : Since) (left : ℕ) (m m' : SplitManaged) (kept : IsSpl
   behind_own : (rest : List Action) → one.held.actions ≡ action.Drained ∷ rest → next_of (Some one.held) ≡ None → awaits_drain (Some one.held) ≡ true → IsBehind
   behind_own rest are next awaits =
       let steps = did.on_own (ap awaits_drain one.under_way ∙ awaits) in
-      let is : m'.whole ≡ passed_drain m.whole one.held rest = passes_drain m.whole m'.whole one.held rest steps.0 one.under_way one.kept.forward.1 are steps.1 in
+      let is : m'.whole ≡ passed_drain m.whole one.held rest = passes_drain m.whole m'.whole one.held rest steps.0 one.under_way are steps.1 in
       let none : parts_due m ≡ [] = ap (parts_of_due m.whole.state) (ap next_of one.under_way ∙ next) in
       let start : m.made ≡ 0 = elim one.kept.made [ inl zero_made ↦ zero_made | inr below ↦ absurd (let past : m.made < 0 = subst (λ n. m.made < n) (ap length none) below in omega arith) ] in
       record {
@@ -168,8 +167,7 @@ module _ (since since' : Since) (left : ℕ) (m m' : SplitManaged) (kept : IsSpl
         forward = one.kept.forward;
         made = inl (did.made ∙ start);
         aims = (refl, refl, refl);
-        writes = ap (λ (t : Option ℕ). writes_left (Some (record one.held { turned = t; actions = rest; current = one.held.during }))) one.kept.forward.1
-            ∙ sym (ap₂ (λ (t : Option ℕ) (a : List Action). writes_left (Some (record one.held { turned = t; actions = a }))) one.kept.forward.1 are);
+        writes = sym (ap (λ (a : List Action). writes_left (Some (record one.held { actions = a }))) are);
         whole_is = is;
         now_is = λ slots on.
             state_is slots

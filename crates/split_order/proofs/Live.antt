@@ -146,7 +146,7 @@ module _ (since : Since) (left : ℕ) (m : SplitManaged) (kept : IsSplitKept sin
 
 -- The commit's end leaves words current.
 pub ends_current : (old : Managed) (made : Step) (new : Managed) (counts : Done) → IsHeldRight old → Steps old 0 old.held made new → made ≡ step.Finished counts → ArePartOf (live_now new) (live_now old)
-ends_current old made new counts right steps is = subst (λ (s : Step). KeepsCurrent old s new) is (steps_keep_current old 0 made new right steps).1
+ends_current old made new counts right steps is = subst (λ (s : Step). KeepsCurrent old s new) is (steps_keep_current old 0 made new right steps)
 
 pub same_current : (old new : Managed) → new ≡ old → ArePartOf (live_now new) (live_now old)
 same_current old new same = subst (λ (w : Managed). ArePartOf (live_now w) (live_now old)) (sym same) (same_part (live_now old))

@@ -1,5 +1,5 @@
 -- What is next of a commit under way: a part, a drain, or nothing.
-use Rattle.std.proofs.Common.{◌≡◌, ℕ, suc, ◌<◌, inl, inr, true, false, Option, None, Some, List, [], ◌∷◌, length, drop, take, slice_get, refl, sym, ◌∙◌, ap, subst, arith}
+use Rattle.std.proofs.Common.{◌≡◌, ℕ, suc, ◌<◌, inl, inr, true, false, None, Some, List, [], ◌∷◌, length, drop, take, slice_get, refl, sym, ◌∙◌, ap, subst, arith}
 use Rattle.tcam_device.specs.declared.Write.{Write}
 use Rattle.tcam_device.specs.State.{IsInUse}
 use Rattle.tcam_device.specs.declared.Action.{Action}
@@ -20,16 +20,13 @@ use Rattle.split_order.specs.Since.{StandsIn}
 use Rattle.split_order.proofs.Behind.{drain_next}
 use Rattle.split_order.proofs.Dues.{IsPlace, due_place, due_right, some_parts, standing_in}
 
--- a commit that goes forward, of which a write is due, has it first
+-- a commit of which a write is due has it first
 pub record HasWrite (held : HeldCommit) (write : Write) : Type 0 where
   pub rest : List Action
   pub actions_are : held.actions ≡ action.Written write ∷ rest
 
-due_of_forward : (held : HeldCommit) → held.turned ≡ None → next_of (Some held) ≡ due_write held.actions
-due_of_forward held forward = ap (λ (t : Option ℕ). elim t [ None ↦ due_write held.actions | Some undone ↦ slice_get held.undo 0 ]) forward
-
-pub has_write : (held : HeldCommit) (write : Write) → held.turned ≡ None → next_of (Some held) ≡ Some write → HasWrite held write
-has_write held write forward next = go held.actions refl (sym (due_of_forward held forward) ∙ next)
+pub has_write : (held : HeldCommit) (write : Write) → next_of (Some held) ≡ Some write → HasWrite held write
+has_write held write next = go held.actions refl next
   where
     go : (actions : List Action) → held.actions ≡ actions → due_write actions ≡ Some write → HasWrite held write
     go [] is due = absurd (let wrong : None ≡ Some write = due in cc)
@@ -41,11 +38,8 @@ pub record HasDrain (held : HeldCommit) : Type 0 where
   pub rest : List Action
   pub actions_are : held.actions ≡ action.Drained ∷ rest
 
-drain_of_forward : (held : HeldCommit) → held.turned ≡ None → awaits_drain (Some held) ≡ is_drain_next held.actions
-drain_of_forward held forward = ap (λ (t : Option ℕ). elim t [ None ↦ is_drain_next held.actions | Some undone ↦ false ]) forward
-
-pub has_drain : (held : HeldCommit) → held.turned ≡ None → awaits_drain (Some held) ≡ true → HasDrain held
-has_drain held forward awaits = go held.actions refl (sym (drain_of_forward held forward) ∙ awaits)
+pub has_drain : (held : HeldCommit) → awaits_drain (Some held) ≡ true → HasDrain held
+has_drain held awaits = go held.actions refl awaits
   where
     go : (actions : List Action) → held.actions ≡ actions → is_drain_next actions ≡ true → HasDrain held
     go [] is due = absurd (let wrong : false ≡ true = due in cc)
@@ -53,8 +47,8 @@ has_drain held forward awaits = go held.actions refl (sym (drain_of_forward held
     go (action.Drained ∷ rest) is due = record { rest = rest; actions_are = is }
 
 -- and one of which nothing is due has no action left
-pub none_due : (held : HeldCommit) → held.turned ≡ None → next_of (Some held) ≡ None → awaits_drain (Some held) ≡ false → held.actions ≡ []
-none_due held forward next awaits = go held.actions (sym (due_of_forward held forward) ∙ next) (sym (drain_of_forward held forward) ∙ awaits)
+pub none_due : (held : HeldCommit) → next_of (Some held) ≡ None → awaits_drain (Some held) ≡ false → held.actions ≡ []
+none_due held next awaits = go held.actions next awaits
   where
     go : (actions : List Action) → due_write actions ≡ None → is_drain_next actions ≡ false → actions ≡ []
     go [] due drains = refl
@@ -69,9 +63,6 @@ module _ (manager : SplitManaged) (held : HeldCommit) (under_way : manager.whole
       ap (left_of_held (state_on slots manager) (since_of manager) manager.whole.state manager.made) under_way
       ∙ ap (left_from (state_on slots manager) (since_of manager) manager.whole.state manager.made) are
 
-  abbrev forward : held.turned ≡ None
-  forward = kept.forward.1
-
   -- a part of the write that is due is left
   pub part_left : (write : Write) → next_of manager.whole.held ≡ Some write → manager.made < length (write_parts manager.whole.state write)
   part_left write next =
@@ -85,7 +76,7 @@ module _ (manager : SplitManaged) (held : HeldCommit) (under_way : manager.whole
   module _ (write : Write) (next : next_of manager.whole.held ≡ Some write) (due : DuePart)
       (get : slice_get (due_parts (standing_in manager.whole.state write) write) manager.made ≡ Some due) where
     abbrev has : HasWrite held write
-    has = has_write held write forward (ap next_of (sym under_way) ∙ next)
+    has = has_write held write (ap next_of (sym under_way) ∙ next)
 
     abbrev pub rest : List Action
     rest = has.rest

@@ -1,5 +1,5 @@
 -- A commit that has come to its end, and a plan that is dropped: the manager is at rest, and what was made stands.
-use Rattle.std.proofs.Common.{◌≡◌, ℕ, zero, suc, ◌<◌, ◌≤◌, inl, inr, false, Option, None, Some, List, [], ◌∷◌, length, take, replicate, refl, sym, ◌∙◌, ap, ap₂, subst, arith, le_refl}
+use Rattle.std.proofs.Common.{◌≡◌, ℕ, zero, suc, ◌<◌, ◌≤◌, inl, inr, false, Option, None, Some, List, [], ◌∷◌, length, take, replicate, refl, sym, ◌∙◌, ap, subst, arith, le_refl}
 use Rattle.std.specs.Prelude.{IfSome}
 use Rattle.std.proofs.lemmas.Bool.{cases_Bool}
 use Rattle.std.proofs.lemmas.List.{length-replicate}
@@ -16,7 +16,8 @@ use Rattle.batch_order.specs.declared.Step.{Step}
 use Rattle.batch_order.specs.declared.Step.TheVariants as step
 use Rattle.batch_order.specs.CarriedOut.{finished, finished_of}
 use Rattle.batch_order.specs.Managed.{HeldCommit, IsOn, Managed, fresh}
-use Rattle.batch_order.specs.Steps.{Steps, StepsEither, StepsOn, next_of}
+use Rattle.batch_order.specs.Steps.{Steps, StepsOn, next_of}
+use Rattle.batch_order.proofs.under_way.Ways.{ended_forward}
 use Rattle.split_device.specs.declared.SplitAction.{SplitAction}
 use Rattle.split_device.specs.declared.SplitAction.TheVariants.{Written, Drained}
 use Rattle.split_device.specs.State.{SplitState, IsSized, blank_split, no_result, undivided, split_after, whole_entries}
@@ -75,7 +76,7 @@ module _ (since : Since) (left : ℕ) (m : SplitManaged) (kept : IsSplitKept sin
       go : (actions : List Action) → held.actions ≡ actions → actions ≡ []
       go [] are = refl
       go (action.Written write ∷ rest) are = absurd (
-          let due : next_of m.whole.held ≡ Some write = ap next_of under_way ∙ ap₂ (λ (t : Option ℕ) (a : List Action). next_of (Some (record held { turned = t; actions = a }))) here.forward.1 are in
+          let due : next_of m.whole.held ≡ Some write = ap next_of under_way ∙ ap (λ (a : List Action). next_of (Some (record held { actions = a }))) are in
           let cut = drop_some m.made (write_parts m.whole.state write) (part_left m held under_way here write due) in
           let now : left_of slots m ≡ made_behind (state_on slots m) (since_of m) (cut.0 ∷ cut.1) rest =
           left_held m held under_way here slots (action.Written write ∷ rest) are ∙ ap (λ some. made_behind (state_on slots m) (since_of m) some rest) cut.2 in
@@ -89,7 +90,7 @@ module _ (since : Since) (left : ℕ) (m : SplitManaged) (kept : IsSplitKept sin
   no_part = elim here.made [
     | inl start ↦ start
     | inr below ↦ absurd (
-        let due : next_of m.whole.held ≡ None = ap next_of under_way ∙ ap₂ (λ (t : Option ℕ) (a : List Action). next_of (Some (record held { turned = t; actions = a }))) here.forward.1 no_action in
+        let due : next_of m.whole.held ≡ None = ap next_of under_way ∙ ap (λ (a : List Action). next_of (Some (record held { actions = a }))) no_action in
         let past : m.made < 0 = subst (λ n. m.made < n) (ap (λ (one : Option Write). length (parts_of_due m.whole.state one)) due) below in omega arith)
   ]
 
@@ -98,14 +99,15 @@ module _ (since : Since) (left : ℕ) (m : SplitManaged) (kept : IsSplitKept sin
       → (made ≡ step.Finished held.counts) × (new ≡ record m.whole { rules = held.rules; bits = held.bits; held = None })
   planner_ends made new steps =
       let one : Steps m.whole 0 (Some held) made new = subst (λ (h : Option HeldCommit). Steps m.whole 0 h made new) under_way steps in
-      let on : StepsOn m.whole held 0 held.actions made new = subst (λ (t : Option ℕ). StepsEither m.whole held 0 t made new) here.forward.1 one in
-      subst (λ (a : List Action). StepsOn m.whole held 0 a made new) no_action on
+      let did : StepsOn m.whole held 0 [] made new = subst (λ (a : List Action). StepsOn m.whole held 0 a made new) no_action one in
+      let ends = ended_forward m.whole held held.way here.forward.1 in
+      (did.0 ∙ ends.0, did.1 ∙ ends.1)
 
   -- where its plan led
   pub planner_led : record m.whole { rules = held.rules; bits = held.bits; held = None } ≡ finished m.whole
   planner_led = sym (
       ap (λ (h : Option HeldCommit). finished_of h m.whole) under_way
-      ∙ ap₂ (λ (t : Option ℕ) (a : List Action). finished_of (Some (record held { turned = t; actions = a })) m.whole) here.forward.1 no_action)
+      ∙ ap (λ (a : List Action). finished_of (Some (record held { actions = a })) m.whole) no_action)
 
 -- With nothing left the planner's commit ends, and the manager is at rest; with none under way all stays as it is.
 module _ (since : Since) (left : ℕ) (m : SplitManaged) (kept : IsSplitKept since left m) (none : (slots : ℕ) → m.whole.slots ≤ slots → left_of slots m ≡ []) where

@@ -90,7 +90,7 @@ module _ (since : Since) (left : ℕ) (m : SplitManaged) (kept : IsSplitKept sin
       go : (held : Option HeldCommit) → m.whole.held ≡ held → IsCommitOrRest m held → awaits_drain held ≡ true → IsNext m next.Drain
       go None is k so = absurd (let wrong : false ≡ true = so in cc)
       go (Some held) is k so = λ slots wide.
-          let has : HasDrain held = has_drain held k.forward.1 so in
+          let has : HasDrain held = has_drain held so in
           first_is (left_of slots m) Drained _ (left_held m held is k slots (action.Drained ∷ has.rest) has.actions_are)
 
   pub nothing_left : next_of m.whole.held ≡ None → awaits_drain m.whole.held ≡ false → IsNext m next.Nothing
@@ -98,4 +98,4 @@ module _ (since : Since) (left : ℕ) (m : SplitManaged) (kept : IsSplitKept sin
     where
       go : (held : Option HeldCommit) → m.whole.held ≡ held → IsCommitOrRest m held → next_of held ≡ None → awaits_drain held ≡ false → IsNext m next.Nothing
       go None is k n a = λ slots wide. ap (left_of_held (state_on slots m) (since_of m) m.whole.state m.made) is
-      go (Some held) is k n a = λ slots wide. left_held m held is k slots [] (none_due held k.forward.1 n a)
+      go (Some held) is k n a = λ slots wide. left_held m held is k slots [] (none_due held n a)

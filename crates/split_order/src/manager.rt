@@ -96,6 +96,7 @@ impl SplitManager {
     /// drains alone were made answers each key as they do, and while a commit is under way as the old or the new ones do.
     pub fn rules(&self) -> &Store
         ensures rules { result.now.rules ≡ self.now.whole.rules }
+        ensures few { length self.now.whole.rules ≤ MOST_SLOTS }
         ensures serves { (slots : ℕ) → self.now.whole.slots ≤ slots → ServesSplit (state_on slots self.now) self.now }
     {
         self.serving();

@@ -135,6 +135,7 @@ impl SplitManager {
         requires { IsNext self.old (Next.Part due) }
         ensures { (slots : ℕ) → self.old.whole.slots ≤ slots → Advances slots (SplitAction.Written due.part) self.old self.new }
     {
+        self.whole.serving();
         self.since.note(&due.part);
         self.events = self.events.and(&SplitAction::Written(due.part));
         self.progress.begun = true;

@@ -27,6 +27,7 @@ use Rattle.tcam_device.specs.Insertion.{Insertion, insertions, IsCrossingSpan}
 use Rattle.tcam_device.proofs.Lookups.{HitAsPieces}
 use Rattle.tcam_device.proofs.Wider.{padded, state_after-padded}
 use Rattle.tcam_device.proofs.WiderInsertions.{widened, insertions-padded, IsCrossingSpan-padded}
+use Rattle.commit_writes.specs.Proposal.{proposal}
 use Rattle.commit_writes.specs.declared.Rewrite.{Rewrite}
 use Rattle.commit_writes.specs.Bits.{FieldBits, bits_with, new_bits}
 use Rattle.commit_writes.specs.Routes.{IsRoute, prefix_lengths}
@@ -126,7 +127,7 @@ split_insertions-behind state (whole.Table Src port word ∷ tables) made words 
 split_insertions-behind state (whole.Table Dst port word ∷ tables) made words = split_insertions-behind (split_apply state (Table Dst port word)) tables made words.1
 
 module _ (mode : Mode) (bits : FieldBits) (start : State) (rules : List Rule) (batch : List Command) (live : List LivePiece) (slots : Slots) (entries : IdEntries) (planned : List Planned) (rewrites : List Rewrite) (erased : List ℕ)
-    (plan : IsPlannedBatch mode bits start rules batch live slots entries planned rewrites erased) (more : ℕ) (state : SplitState) (sized : IsSized state) (is : undivided state ≡ padded more start)
+    (plan : IsPlannedBatch (proposal mode bits rules batch) start live slots entries planned rewrites erased) (more : ℕ) (state : SplitState) (sized : IsSized state) (is : undivided state ≡ padded more start)
     (inside : AllByRecursion (IsInUse (length state.slots)) (batch_writes entries slots planned rewrites erased)) where
   abbrev old : List RankedPiece
   old = set_pieces mode bits rules
@@ -236,7 +237,7 @@ behind_slots state (whole.Table Dst port word ∷ tables) = behind_slots (split_
 -- A commit as it was planned, the words of its new bits first, on a device with so many empty slots more.
 module _ (mode : Mode) (bits : FieldBits) (rules : List Rule) (batch : List Command) (own : State) (live : List LivePiece) (slots : Slots) (entries : IdEntries) (planned : List Planned)
     (rewrites : List Rewrite) (erased : List ℕ) (more : ℕ) (state : SplitState) (sized : IsSized state) (is : undivided state ≡ padded more own)
-    (plan : IsPlannedBatch mode (bits_with mode rules batch bits) (fresh_state mode bits rules batch own) rules batch live slots entries planned rewrites erased)
+    (plan : IsPlannedBatch (proposal mode (bits_with mode rules batch bits) rules batch) (fresh_state mode bits rules batch own) live slots entries planned rewrites erased)
     (inside : AllByRecursion (IsInUse (length state.slots)) (batch_writes entries slots planned rewrites erased)) where
   abbrev tables : List Write
   tables = fresh_writes mode bits rules batch own

@@ -10,6 +10,7 @@ use Rattle.rule_store.specs.Batch.{set_after}
 use Rattle.placement.specs.declared.LivePiece.{LivePiece}
 use Rattle.tcam_device.specs.declared.Write.{Write}
 use Rattle.tcam_device.specs.State.{State, IsInUse, state_after, on_device}
+use Rattle.commit_writes.specs.Proposal.{proposal}
 use Rattle.commit_writes.specs.declared.Rewrite.{Rewrite}
 use Rattle.commit_writes.specs.Bits.{FieldBits, bits_with, new_bits}
 use Rattle.commit_writes.specs.Shape.{bit_writes}
@@ -52,7 +53,7 @@ pub record ArePlannedOn (mode : Mode) (bits : FieldBits) (rules : List Rule) (ba
   pub planned : List Planned
   pub rewrites : List Rewrite
   pub erased : List ℕ
-  pub commit : IsPlannedBatch mode (bits_with mode rules batch bits) (state_after own (bit_writes own (new_bits bits (bits_with mode rules batch bits)))) rules batch
+  pub commit : IsPlannedBatch (proposal mode (bits_with mode rules batch bits) rules batch) (state_after own (bit_writes own (new_bits bits (bits_with mode rules batch bits))))
       live arrangement entries planned rewrites erased
   pub writes_are : writes
       ≡ bit_writes own (new_bits bits (bits_with mode rules batch bits)) ++ batch_writes entries arrangement planned rewrites erased

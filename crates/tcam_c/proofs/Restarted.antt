@@ -5,22 +5,19 @@ use Rattle.rule_store.specs.declared.Mode.{Mode}
 use Rattle.tcam_device.specs.declared.Action.{Action}
 use Rattle.commit_writes.specs.Bits.{FieldBits}
 use Rattle.batch_order.specs.declared.Placement.{Placement}
-use Rattle.batch_order.specs.Managed.{HeldCommit, Managed, actions_due}
-use Rattle.tcam_c.specs.Driven.{ended_by, settled, settled_by, settled_of}
+use Rattle.batch_order.specs.Managed.{HeldCommit, Managed}
+use Rattle.batch_order.proofs.under_way.Stepped.{left_slots}
+use Rattle.tcam_c.specs.Driven.{settled, settled_by, settled_of}
 use Rattle.tcam_c.specs.Told.{Account}
 
 -- a commit's end leaves the slots
-ended_slots : (turned : Option ℕ) (held : HeldCommit) (manager : Managed) → (ended_by turned held manager).slots ≡ manager.slots
-ended_slots None held manager = refl
-ended_slots (Some undone) held manager = refl
-
 settled_by_slots : (actions : List Action) (held : HeldCommit) (manager : Managed) → (settled_by actions held manager).slots ≡ manager.slots
-settled_by_slots [] held manager = ended_slots held.turned held manager
+settled_by_slots [] held manager = left_slots manager held held.way
 settled_by_slots (action ∷ actions) held manager = refl
 
 settled_of_slots : (held : Option HeldCommit) (manager : Managed) → (settled_of held manager).slots ≡ manager.slots
 settled_of_slots None manager = refl
-settled_of_slots (Some held) manager = settled_by_slots (actions_due held) held manager
+settled_of_slots (Some held) manager = settled_by_slots held.actions held manager
 
 pub settled_slots : (manager : Managed) → (settled manager).slots ≡ manager.slots
 settled_slots manager = settled_of_slots manager.held manager

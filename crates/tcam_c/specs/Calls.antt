@@ -13,9 +13,10 @@ use Rattle.rule_store.specs.declared.PushFault.{PushFault}
 use Rattle.rule_store.specs.declared.PushFault.TheVariants as push
 use Rattle.rule_store.specs.declared.Mode.{Mode}
 use Rattle.batch_order.specs.declared.Placement.{Placement}
+use Rattle.batch_order.specs.declared.Refusal.{Refusal}
 use Rattle.tcam_c.specs.Codes.{push_code, refusal_code, mode_of_code, placement_by}
 use Rattle.tcam_c.specs.InHand.{PreparesAll, PreparesInHand, changes_in, command_joined, held_of_table, request_joined, requests_in}
-use Rattle.tcam_c.specs.Plain.{IsAnswer, IsRefusalTold, IsStoredTold, address_number, no_refusal}
+use Rattle.tcam_c.specs.Plain.{IsAnswer, IsRefusalTold, IsStoredTold, address_number}
 use Rattle.tcam_c.specs.Tables.{AbortsTable, IsServingTable, PassesTable, TellsTable, answer_of_table, slots_left_of_table, fresh_table, kind_of_table, rules_of_table}
 use Rattle.tcam_c.specs.declared.in_hand.PendingBatch.TheVariants.{Strict}
 use Rattle.tcam_c.specs.declared.plain.TcamAnswer.{TcamAnswer}
@@ -25,8 +26,6 @@ use Rattle.tcam_c.specs.declared.plain.TcamNumbers.{TcamNumbers}
 use Rattle.tcam_c.specs.declared.plain.TcamRefusal.{TcamRefusal}
 use Rattle.tcam_c.specs.declared.plain.TcamStored.{TcamStored}
 use Rattle.tcam_c.specs.declared.plain.TcamWrite.{TcamWrite}
-use Rattle.tcam_c.specs.declared.preparing.PrepareFault.{PrepareFault}
-use Rattle.tcam_c.specs.declared.preparing.PrepareFault.TheVariants.{Refused, Full}
 use Rattle.tcam_c.specs.declared.session.Session.{Session}
 use Rattle.tcam_c.specs.declared.steps.DueKind.{DueKind}
 use Rattle.tcam_c.specs.declared.steps.DueKind.TheVariants as kind
@@ -64,7 +63,7 @@ abbrev pub Pushes : Command → Session → Session → ℕ → Type 0
 Pushes command before after code =
     (pushed : Result (Unit {0}) PushFault) × (code ≡ push_code pushed)
     × OnOk pushed (after ≡ record before { batch = command_joined before.batch command })
-    × ((pushed ≡ Err push.Full) ↔ (changes_in before.batch ≡ most_pending))
+    × ((pushed ≡ Err push.Full) ↔ (most_pending ≤ changes_in before.batch))
     × OnErr pushed (after ≡ before)
 
 -- a change that plain numbers stand for, or the code of what is wrong with them
@@ -80,7 +79,7 @@ abbrev pub Asks : Request → Session → Session → ℕ → Type 0
 Asks request before after code =
     (pushed : Result (Unit {0}) PushFault) × (code ≡ push_code pushed)
     × OnOk pushed (after ≡ record before { batch = request_joined before.batch request })
-    × ((pushed ≡ Err push.Full) ↔ (changes_in before.batch ≡ most_pending))
+    × ((pushed ≡ Err push.Full) ↔ (most_pending ≤ changes_in before.batch))
     × OnErr pushed (after ≡ before)
 
 abbrev pub AsksOr : Result Request ℕ → Session → Session → ℕ → Type 0
@@ -101,15 +100,14 @@ IsFreed (Some before) new code = (code ≡ 0) × (new ≡ None)
 
 -- The batch is judged and planned: the manager's own clauses, with the code of the answer, and what is told of it. Where it is
 -- taken it is empty then. Before the first write each key is answered as before the call.
-abbrev pub Told : TcamNumbers → TcamNumbers → TcamRefusal → TcamRefusal → Result TcamNumbers PrepareFault → ℕ → Type 0
+abbrev pub Told : TcamNumbers → TcamNumbers → TcamRefusal → TcamRefusal → Result TcamNumbers Refusal → ℕ → Type 0
 Told numbers numbers' refusal refusal' (Ok counts) code = (code ≡ 0) × (numbers' ≡ counts) × (refusal' ≡ refusal)
-Told numbers numbers' refusal refusal' (Err (Refused fault)) code =
+Told numbers numbers' refusal refusal' (Err fault) code =
     (code ≡ refusal_code fault) × (numbers' ≡ numbers) × IsRefusalTold fault refusal'
-Told numbers numbers' refusal refusal' (Err Full) code = (code ≡ 10) × (numbers' ≡ numbers) × (refusal' ≡ no_refusal)
 
 abbrev pub Prepared : TcamNumbers → TcamNumbers → TcamRefusal → TcamRefusal → Session → Session → ℕ → Type 0
 Prepared numbers numbers' refusal refusal' before after code =
-    (judged : Result TcamNumbers PrepareFault) × PreparesInHand before.batch judged before.table after.table
+    (judged : Result TcamNumbers Refusal) × PreparesInHand before.batch judged before.table after.table
     × OnOk judged ((after.batch ≡ Strict []) × (after.told ≡ before.told))
     × OnErr judged (after ≡ before)
     × Told numbers numbers' refusal refusal' judged code
@@ -117,7 +115,7 @@ Prepared numbers numbers' refusal refusal' before after code =
 -- and likewise with the changes as the whole new set
 abbrev pub PreparedAll : TcamNumbers → TcamNumbers → TcamRefusal → TcamRefusal → Session → Session → ℕ → Type 0
 PreparedAll numbers numbers' refusal refusal' before after code =
-    (judged : Result TcamNumbers PrepareFault)
+    (judged : Result TcamNumbers Refusal)
     × PreparesAll (held_of_table before.table) (requests_in before.batch) judged before.table after.table
     × OnOk judged ((after.batch ≡ Strict []) × (after.told ≡ before.told))
     × OnErr judged (after ≡ before)

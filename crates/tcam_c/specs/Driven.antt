@@ -12,14 +12,14 @@ use Rattle.tcam_device.specs.State.{State, apply, replay}
 use Rattle.tcam_device.specs.Insertion.{is_table_write}
 use Rattle.tcam_device.specs.Flight.{Flight, writes_in}
 use Rattle.commit_writes.specs.InFlight.{ArePartOf}
-use Rattle.commit_writes.specs.Undo.{restoring}
 use Rattle.commit_writes.specs.declared.Done.{Done}
-use Rattle.batch_order.specs.Managed.{Managed, HeldCommit, Holds, IsOn, Serves, actions_due, fresh, live_now}
+use Rattle.batch_order.specs.Managed.{Managed, HeldCommit, Holds, IsOn, Serves, Way, fresh, live_now}
+use Rattle.batch_order.specs.Managed.Way.{On, Back}
 use Rattle.batch_order.specs.declared.AbortFault.{AbortFault}
 use Rattle.batch_order.specs.declared.AbortFault.TheVariants as abort_fault
 use Rattle.batch_order.specs.declared.Placement.{Placement}
-use Rattle.batch_order.specs.Steps.{Aborts, current_back}
-use Rattle.batch_order.specs.Passed.{GoesBackFrom, WayBackFrom}
+use Rattle.batch_order.specs.Steps.{Aborts, current_by, left_by, going_back, way_by}
+use Rattle.batch_order.specs.Passed.{WayBackFrom}
 use Rattle.batch_order.specs.CarriedOut.{HasRoomBothWays}
 use Rattle.tcam_c.specs.declared.steps.DueKind.{DueKind}
 use Rattle.tcam_c.specs.declared.steps.DueKind.TheVariants as kind
@@ -54,7 +54,7 @@ IsServingAhead driven (Some (Written write)) =
 -- a commit under way has a write or a drain left, forward or back
 abbrev pub HasDue : Option HeldCommit → Type 0
 HasDue None = Unit {0}
-HasDue (Some held) = 1 ≤ length (actions_due held)
+HasDue (Some held) = 1 ≤ length held.actions
 
 -- The memory has the manager's slots, what was made is the manager's, there is room for those that are left and to take back
 -- those that were made, and no word is in flight, since the caller says that it drained and a drain never waits here. Between
@@ -74,7 +74,7 @@ first_action (action ∷ actions) = Some action
 -- What is due: a write or a drain. Of a commit that is turned round it is an undo write, and never a drain.
 abbrev pub due_of : Option HeldCommit → Option Action
 due_of None = None
-due_of (Some held) = first_action (actions_due held)
+due_of (Some held) = first_action held.actions
 
 -- no slot before this one holds the entry
 abbrev pub StandsNotBefore : List (Option Entry) → Entry → ℕ → Type 0
@@ -112,26 +112,14 @@ abbrev pub due_actions : Option Action → List Action
 due_actions None = []
 due_actions (Some action) = action ∷ []
 
--- with nothing left the rules and their live ranges are the new ones
-abbrev pub closed : HeldCommit → Managed → Managed
-closed held manager = record manager { rules = held.rules; bits = held.bits; held = None }
-
--- and where it was turned round the old ones
-abbrev pub reverted : Managed → Managed
-reverted manager = record manager { held = None }
-
-abbrev pub ended_by : Option ℕ → HeldCommit → Managed → Managed
-ended_by None held manager = closed held manager
-ended_by (Some undone) held manager = reverted manager
-
 -- a manager whose commit under way, if it has nothing left, has come to its end
 abbrev pub settled_by : List Action → HeldCommit → Managed → Managed
-settled_by [] held manager = ended_by held.turned held manager
+settled_by [] held manager = left_by manager held held.way
 settled_by (action ∷ actions) held manager = manager
 
 abbrev pub settled_of : Option HeldCommit → Managed → Managed
 settled_of None manager = manager
-settled_of (Some held) manager = settled_by (actions_due held) held manager
+settled_of (Some held) manager = settled_by held.actions held manager
 
 abbrev pub settled : Managed → Managed
 settled manager = settled_of manager.held manager
@@ -147,34 +135,25 @@ pub record Prepares (old : Driven) (batch : List Command) (counts : Done) (new :
   pub plans : Plans old.manager batch counts new.manager
   pub events : new.events ≡ old.events
 
--- The manager after what is due was made, forward: a write is applied, and what undoes it kept; from a drain on the new ranges
--- count; and where nothing is left it has finished.
+-- The manager after what is due was made, forward or back: a write is applied, and forward what undoes it kept; with a word of a
+-- table the ranges before the commit count, and from a drain on the new ones; and where nothing is left it has come to its end.
 abbrev pub stepped_on : List Action → HeldCommit → Managed → Managed
-stepped_on [] held manager = closed held manager
+stepped_on [] held manager = left_by manager held held.way
 stepped_on (Written write ∷ actions) held manager =
     record manager {
       state = apply manager.state write;
-      held = Some (record held { actions = actions; undo = restoring manager.state write ∷ held.undo });
+      held = Some (record held {
+        actions = actions;
+        way = way_by manager.state write held.way;
+        current = current_by manager.bits held.current (is_table_write write);
+      });
     }
 stepped_on (Drained ∷ actions) held manager =
     record manager { held = Some (record held { actions = actions; current = held.during }) }
 
--- And back: an undo write is applied, and with a table word undone the ranges before the commit count again.
-abbrev pub stepped_back : List Write → HeldCommit → Managed → Managed
-stepped_back [] held manager = reverted manager
-stepped_back (write ∷ undo) held manager =
-    record manager {
-      state = apply manager.state write;
-      held = Some (record held { undo = undo; current = current_back manager.bits held.current (is_table_write write) });
-    }
-
-abbrev pub stepped_by : Option ℕ → HeldCommit → Managed → Managed
-stepped_by None held manager = stepped_on held.actions held manager
-stepped_by (Some undone) held manager = stepped_back held.undo held manager
-
 abbrev pub stepped_of : Option HeldCommit → Managed → Managed
 stepped_of None manager = manager
-stepped_of (Some held) manager = stepped_by held.turned held manager
+stepped_of (Some held) manager = stepped_on held.actions held manager
 
 -- and behind the last one the rules are the new set, or the old one where the commit was turned round
 abbrev pub passed_of : Option HeldCommit → Managed → Managed
@@ -195,11 +174,10 @@ KeepsWords None old new = KeepsLive old new
 KeepsWords (Some (Written write)) old new = KeepsLive old new
 KeepsWords (Some Drained) old new = Unit {0}
 
--- What undoes the writes of the commit under way is kept, and taking it back passes no state that the commit didn't pass, and
--- ends where it began.
-pub record KeepsWayBack (old new : Managed) : Type 0 where
-  pub way_back : (begun : State) → WayBackFrom begun old → WayBackFrom begun new
-  pub goes_back : (begun : State) → WayBackFrom begun old → GoesBackFrom begun new
+-- What undoes the writes of the commit under way is kept. That taking it back passes no state that the commit didn't pass, and
+-- ends where it began, follows for each manager (`ways_back_go_back` of `batch_order`).
+abbrev pub KeepsWayBack : Managed → Managed → Type 0
+KeepsWayBack old new = (begun : State) → WayBackFrom begun old → WayBackFrom begun new
 
 -- what telling does that the write or the drain which is due was made
 pub record PassesOn (old new : Driven) : Type 0 where
@@ -214,26 +192,26 @@ pub record TakesBack (old : Managed) (answer : Result ℕ AbortFault) (new : Man
   pub aborts : Aborts old old.held answer turned
   pub settled_is : new ≡ settled turned
 
--- The commit under way, this one, was turned round: its writes are undone from now on, the last one first. Where none was made
+-- The commit under way, this one, was turned round: these undo writes are due from now on, in their order. Where none was made
 -- it is over.
-abbrev pub turned_round : HeldCommit → Managed → Managed
-turned_round held manager = settled (record manager { held = Some (record held { turned = Some (length held.undo) }) })
+abbrev pub turned_round : HeldCommit → List Write → Managed → Managed
+turned_round held undo manager = settled (record manager { held = Some (going_back held undo) })
 
 -- Nothing else changes, and words stay current.
-pub record AbortsTo (held : HeldCommit) (old new : Driven) : Type 0 where
-  pub manager : new.manager ≡ turned_round held old.manager
+pub record AbortsTo (held : HeldCommit) (undo : List Write) (old new : Driven) : Type 0 where
+  pub manager : new.manager ≡ turned_round held undo old.manager
   pub events : new.events ≡ old.events
   pub keeps : KeepsLive old.manager new.manager
   pub back : KeepsWayBack old.manager new.manager
 
 -- A commit under way is turned round, with so many undo writes to make. One that is turned round already stays as it is, with
 -- those that are left; and so does one that a restart goes on with. With none under way there is nothing to turn.
-abbrev pub AbortsByWay : Option ℕ → HeldCommit → Driven → Result ℕ AbortFault → Driven → Type 0
-AbortsByWay None held before answer after = (answer ≡ Ok (length held.undo)) × AbortsTo held before after
-AbortsByWay (Some undone) held before answer after = (answer ≡ Err (abort_fault.Back (length held.undo))) × (after ≡ before)
+abbrev pub AbortsByWay : Way → HeldCommit → Driven → Result ℕ AbortFault → Driven → Type 0
+AbortsByWay (On undo) held before answer after = (answer ≡ Ok (length undo)) × AbortsTo held undo before after
+AbortsByWay (Back undone) held before answer after = (answer ≡ Err (abort_fault.Back (length (writes_in held.actions)))) × (after ≡ before)
 
 abbrev pub AbortsPrepared : Bool → HeldCommit → Driven → Result ℕ AbortFault → Driven → Type 0
-AbortsPrepared true held before answer after = AbortsByWay held.turned held before answer after
+AbortsPrepared true held before answer after = AbortsByWay held.way held before answer after
 AbortsPrepared false held before answer after = (answer ≡ Err abort_fault.Restarted) × (after ≡ before)
 
 abbrev pub AbortsHeld : Driven → Option HeldCommit → Result ℕ AbortFault → Driven → Type 0

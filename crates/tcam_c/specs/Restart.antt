@@ -161,7 +161,6 @@ abbrev pub IsSettleReply : SettleFault → Reply → Reply → ℕ → Type 0
 IsSettleReply (settling.Unsound fault) was now code =
     (code ≡ refusal_code (Rejected (rejections.Unsound fault))) × IsRefusalTold (Rejected (rejections.Unsound fault)) now.refusal
     × (now ≡ record was { refusal = now.refusal })
-IsSettleReply settling.Full was now code = (code ≡ 10) × (now ≡ was)
 IsSettleReply settling.Memory was now code = (code ≡ 11) × (now ≡ was)
 
 abbrev pub IsGoOnReply : GoOnFault → Reply → Reply → ℕ → Type 0

@@ -7,19 +7,18 @@ ghost use Rattle.tcam_c.specs.Tables.{IsServingTable, fresh_table};
 
 use crate::changes::{adds_route, adds_rule, dels_route, dels_rule, sets_route, sets_rule};
 use crate::codes::{
-    BATCH_FULL, DRAIN_DUE, MADE_ALREADY, MEMORY, NO_MANAGER, NO_MODE, NO_PLACEMENT, NO_RULE,
-    NOTHING_DUE, OK, SLOTS_RANGE, WRITE_DUE, code_of_push, code_of_refusal, mode_of, placement_of,
+    DRAIN_DUE, MADE_ALREADY, MEMORY, NO_MANAGER, NO_MODE, NO_PLACEMENT, NO_RULE, NOTHING_DUE, OK,
+    SLOTS_RANGE, WRITE_DUE, code_of_push, code_of_refusal, mode_of, placement_of,
 };
 use crate::handle::TcamManager;
 use crate::plain::{
-    NO_REFUSAL, TcamAnswer, TcamKey, TcamNumbers, TcamRefusal, TcamRule, TcamStored, TcamWrite,
-    answer_of, refusal_of, stored_of,
+    TcamAnswer, TcamKey, TcamNumbers, TcamRefusal, TcamRule, TcamStored, TcamWrite, answer_of,
+    refusal_of, stored_of,
 };
-use crate::preparing::PrepareFault;
 use crate::session::Session;
 use crate::steps::DueKind;
 use crate::table::TableKind;
-use batch_order::{Mode, Placement};
+use batch_order::{Mode, Placement, Refusal};
 use rule_model::Key;
 use rule_store::Command;
 use slot_order::MOST_SLOTS;
@@ -258,7 +257,7 @@ pub extern "C" fn tcam_c_prepare(
 
 /// Tells what a batch was answered.
 pub(crate) fn tell_prepared(
-    judged: Result<TcamNumbers, PrepareFault>,
+    judged: Result<TcamNumbers, Refusal>,
     numbers: &mut TcamNumbers,
     refusal: &mut TcamRefusal,
 ) -> u32
@@ -269,13 +268,9 @@ pub(crate) fn tell_prepared(
             *numbers = counts;
             OK
         }
-        Err(PrepareFault::Refused(fault)) => {
+        Err(fault) => {
             *refusal = refusal_of(&fault);
             code_of_refusal(&fault)
-        }
-        Err(PrepareFault::Full) => {
-            *refusal = NO_REFUSAL;
-            BATCH_FULL
         }
     }
 }

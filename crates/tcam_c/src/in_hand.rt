@@ -1,15 +1,12 @@
 //! The batch in hand: the changes that wait for their commit.
 
-ghost use Rattle.std.specs.Prelude.{◌≡◌, ◌↔◌, [], Err, IfOk, OnOk, OnErr, map};
+ghost use Rattle.std.specs.Prelude.{◌≡◌, ◌↔◌, ◌≤◌, [], Err, OnOk, OnErr};
 ghost use Rattle.rule_store.specs.Batch.{most_pending};
 ghost use Rattle.tcam_c.specs.InHand.{changes_in, command_joined, request_joined};
 
-use rule_store::{Batch, Command, PushFault};
+use rule_store::{Batch, Command, PENDING_COMMANDS, PushFault};
 use settled_changes::{Request, Requests};
 use std::alloc::{AllocError, Global};
-
-/// The most changes of a batch (`most_pending` in definitions).
-const MOST_CHANGES: u32 = 4096;
 
 /// Changes in their order, 4,096 at most. Strict ones alone are a batch, which needs no settling; from the first forgiving one
 /// on they are requests.
@@ -30,7 +27,7 @@ impl PendingBatch {
     /// Puts a strict command behind the others.
     pub(crate) fn push(&mut self, command: Command) -> Result<(), PushFault>
         ensures pushed { OnOk result (self.new ≡ command_joined self.old command) }
-        ensures full { (result ≡ Err PushFault.Full) ↔ (changes_in self.old ≡ most_pending) }
+        ensures full { (result ≡ Err PushFault.Full) ↔ (most_pending ≤ changes_in self.old) }
         ensures same { OnErr result (self.new ≡ self.old) }
     {
         match self {
@@ -42,16 +39,16 @@ impl PendingBatch {
     /// Puts a request behind the others, which are requests from then on.
     pub(crate) fn ask(&mut self, alloc: Global, request: Request) -> Result<(), PushFault>
         ensures asked { OnOk result (self.new ≡ request_joined self.old request) }
-        ensures full { (result ≡ Err PushFault.Full) ↔ (changes_in self.old ≡ most_pending) }
+        ensures full { (result ≡ Err PushFault.Full) ↔ (most_pending ≤ changes_in self.old) }
         ensures same { OnErr result (self.new ≡ self.old) }
     {
         let mut requests = match self {
             PendingBatch::Asked(requests) => return requests.push(request),
             PendingBatch::Strict(batch) => {
-                if batch.len() >= MOST_CHANGES {
+                if batch.len() >= PENDING_COMMANDS {
                     return Err(PushFault::Full);
                 }
-                match requests_of(alloc, batch) {
+                match Requests::of_batch(alloc, batch) {
                     Ok(requests) => requests,
                     Err(AllocError) => return Err(PushFault::Memory),
                 }
@@ -77,20 +74,4 @@ impl PendingBatch {
             *self = PendingBatch::new(alloc);
         }
     }
-}
-
-/// Strict commands as requests.
-pub(crate) fn requests_of(alloc: Global, batch: &Batch) -> Result<Requests, AllocError>
-    ensures { IfOk result (λ requests. requests ≡ map Request.Strict batch.now) }
-{
-    let mut requests = Requests::new(alloc);
-    for i in 0..batch.len() {
-        let command = batch.at(i);
-        match requests.push(Request::Strict(command)) {
-            Ok(()) => {}
-            // There is room: a batch has no more commands than requests may be.
-            Err(_) => return Err(AllocError),
-        }
-    }
-    Ok(requests)
 }

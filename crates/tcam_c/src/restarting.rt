@@ -4,9 +4,7 @@ ghost use Rattle.std.specs.Prelude.{◌≡◌, ℕ, IfErr, IfOk};
 ghost use Rattle.tcam_c.specs.Restart.{BeginsRestart, ForgetsTold, GoesOnFor, IsFaultReply, IsGoOnReply, RefusesFor, TakesUp, TellsMore, answer_code, reply};
 ghost use Rattle.tcam_c.specs.Told.{AddsRange, AddsSlot, AddsWord, TakesRule};
 
-use crate::codes::{
-    BATCH_FULL, BESIDE, MEMORY, NO_RESTART, OK, SLOTS_RANGE, STAGE, USED, code_of_refusal,
-};
+use crate::codes::{BESIDE, MEMORY, NO_RESTART, OK, SLOTS_RANGE, STAGE, USED, code_of_refusal};
 use crate::in_hand::PendingBatch;
 use crate::plain::{TcamRefusal, TcamStored, TcamWrite, refusal_of};
 use crate::session::Session;
@@ -186,7 +184,6 @@ fn tell_why(refused: &GoOnFault, refusal: &mut TcamRefusal, fault: &mut TcamRest
             *refusal = refusal_of(&verdict);
             code_of_refusal(&verdict)
         }
-        GoOnFault::Unsettled(SettleFault::Full) => BATCH_FULL,
         GoOnFault::Unsettled(SettleFault::Memory) => MEMORY,
     }
 }

@@ -12,11 +12,11 @@ ghost use Rattle.tcam_c.specs.Tables.{AbortsTable, IsServingTable, PassesTable, 
 
 use crate::in_hand::PendingBatch;
 use crate::plain::{TcamNumbers, TcamWrite};
-use crate::preparing::{PrepareFault, prepare_all, prepare_asked, prepare_strict};
+use crate::preparing::{prepare_all, prepare_asked};
 use crate::steps::DueKind;
 use crate::table::{Table, TableKind};
 use crate::told::Told;
-use batch_order::{Mode, Placement};
+use batch_order::{Mode, Placement, Refusal};
 use range_bits::BitMap;
 use rule_model::{Key, Rank, Rule};
 use rule_store::{Command, PushFault};
@@ -60,7 +60,7 @@ impl Session {
     /// Puts a change behind the others of the batch.
     pub(crate) fn push(&mut self, command: Command) -> Result<(), PushFault>
         ensures pushed { OnOk result (self.new ≡ record self.old { batch = command_joined self.old.batch command }) }
-        ensures full { (result ≡ Err PushFault.Full) ↔ (changes_in self.old.batch ≡ most_pending) }
+        ensures full { (result ≡ Err PushFault.Full) ↔ (most_pending ≤ changes_in self.old.batch) }
         ensures same { OnErr result (self.new ≡ self.old) }
     {
         self.batch.push(command)
@@ -69,7 +69,7 @@ impl Session {
     /// Puts a forgiving change behind the others.
     pub(crate) fn ask(&mut self, alloc: Global, request: Request) -> Result<(), PushFault>
         ensures asked { OnOk result (self.new ≡ record self.old { batch = request_joined self.old.batch request }) }
-        ensures full { (result ≡ Err PushFault.Full) ↔ (changes_in self.old.batch ≡ most_pending) }
+        ensures full { (result ≡ Err PushFault.Full) ↔ (most_pending ≤ changes_in self.old.batch) }
         ensures same { OnErr result (self.new ≡ self.old) }
     {
         self.batch.ask(alloc, request)
@@ -84,13 +84,13 @@ impl Session {
 
     /// Has the batch judged and planned. Where it is taken the batch is empty then, and a commit with nothing to make
     /// has finished. A refusal leaves all as it was.
-    pub(crate) fn prepare(&mut self, alloc: Global) -> Result<TcamNumbers, PrepareFault>
+    pub(crate) fn prepare(&mut self, alloc: Global) -> Result<TcamNumbers, Refusal>
         ensures prepared { PreparesInHand self.old.batch result self.old.table self.new.table }
         ensures taken { OnOk result ((self.new.batch ≡ PendingBatch.Strict []) × (self.new.told ≡ self.old.told)) }
         ensures refused { OnErr result (self.new ≡ self.old) }
     {
         let answer = match &self.batch {
-            PendingBatch::Strict(batch) => prepare_strict(&mut self.table, batch),
+            PendingBatch::Strict(batch) => self.table.prepare(batch),
             PendingBatch::Asked(requests) => prepare_asked(&mut self.table, alloc, requests),
         };
         if answer.is_ok() {
@@ -100,7 +100,7 @@ impl Session {
     }
 
     /// Likewise with the changes of the batch as the whole new set: what they make of no rules.
-    pub(crate) fn prepare_all(&mut self, alloc: Global) -> Result<TcamNumbers, PrepareFault>
+    pub(crate) fn prepare_all(&mut self, alloc: Global) -> Result<TcamNumbers, Refusal>
         ensures prepared { PreparesAll (held_of_table self.old.table) (requests_in self.old.batch) result self.old.table self.new.table }
         ensures taken { OnOk result ((self.new.batch ≡ PendingBatch.Strict []) × (self.new.told ≡ self.old.told)) }
         ensures refused { OnErr result (self.new ≡ self.old) }

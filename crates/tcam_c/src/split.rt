@@ -1,11 +1,12 @@
 //! A manager of a memory whose results stand beside its slots, and the shadow of the caller's memory.
 
-ghost use Rattle.std.specs.Prelude.{◌≡◌, ◌≤◌, ◌<◌, ◌+◌, ◌^◌, IfOk, IsSome, OnOk, OnErr, is_some, slice_get};
+ghost use Rattle.std.specs.Prelude.{◌≡◌, ◌≤◌, ◌<◌, ◌+◌, ◌^◌, IfOk, IsSome, OnOk, OnErr, is_some, length, slice_get};
 ghost use Rattle.split_device.specs.State.{split_lookup};
 ghost use Rattle.split_order.specs.Left.{state_on};
 ghost use Rattle.split_order.specs.Managed.{fresh_split};
 ghost use Rattle.split_order.specs.Prepared.{JudgesSplit};
 ghost use Rattle.rule_model.specs.RuleSet.{IsRuleSet};
+ghost use Rattle.rule_store.specs.Batch.{most_pending};
 ghost use Rattle.rule_chains.specs.Chains.{IsLongestChain};
 ghost use Rattle.tcam_c.specs.Driven.{IsDue, KeepsLive};
 ghost use Rattle.tcam_c.specs.Tables.{slots_left};
@@ -158,9 +159,10 @@ impl SplitTable {
         longest_chain(alloc, self.manager.rules())
     }
 
-    /// The rules of the set; while a commit is under way, those of the old set.
+    /// The rules of the set, 4,096 at most; while a commit is under way, those of the old set.
     pub(crate) fn rules(&self) -> &Store
-        ensures { result.now.rules ≡ self.now.whole.rules }
+        ensures rules { result.now.rules ≡ self.now.whole.rules }
+        ensures few { length self.now.whole.rules ≤ most_pending }
     {
         self.manager.rules()
     }

@@ -1,7 +1,8 @@
 //! What a session leads: a memory of whole entries, or one whose results stand beside its slots, with its manager.
 
-ghost use Rattle.std.specs.Prelude.{◌≡◌, ◌≤◌, ◌<◌, ◌+◌, ◌^◌, IfOk, IsSome, OnOk, is_some, option_map, slice_get};
+ghost use Rattle.std.specs.Prelude.{◌≡◌, ◌≤◌, ◌<◌, ◌+◌, ◌^◌, IfOk, IsSome, OnErr, OnOk, is_some, length, option_map, slice_get};
 ghost use Rattle.rule_model.specs.RuleSet.{IsRuleSet};
+ghost use Rattle.rule_store.specs.Batch.{most_pending};
 ghost use Rattle.rule_chains.specs.Chains.{IsLongestChain};
 ghost use Rattle.tcam_c.specs.Driven.{IsDue};
 ghost use Rattle.tcam_c.specs.InHand.{held_of_table};
@@ -60,9 +61,10 @@ impl Table {
         }
     }
 
-    /// Has a batch judged and planned, and tells the numbers of its commit.
+    /// Has a batch judged and planned, and tells the numbers of its commit. A refusal leaves all as it was.
     pub(crate) fn prepare(&mut self, batch: &Batch) -> Result<TcamNumbers, Refusal>
-        ensures { PreparesTable batch.now result self.old self.new }
+        ensures prepared { PreparesTable batch.now result self.old self.new }
+        ensures refused { OnErr result (self.new ≡ self.old) }
     {
         match self {
             Table::Whole(table) => match table.prepare(batch) {
@@ -153,9 +155,10 @@ impl Table {
         }
     }
 
-    /// The rules of the set; while a commit is under way, those of the old set.
+    /// The rules of the set, 4,096 at most; while a commit is under way, those of the old set.
     pub(crate) fn rules(&self) -> &Store
-        ensures { result.now.rules ≡ rules_of_table self.now }
+        ensures rules { result.now.rules ≡ rules_of_table self.now }
+        ensures few { length (rules_of_table self.now) ≤ most_pending }
     {
         match self {
             Table::Whole(table) => table.rules(),

@@ -1,5 +1,5 @@
 -- A line of a trace of IPv6 that is read has numbers within their limits.
-use Rattle.std.proofs.Common.{◌≡◌, ℕ, Bool, true, false, cond, ◌+◌, ◌-◌, ◌%◌, ◌^◌, ◌<◌, ◌≤◌, List, Option, Some, None, IfSome, refl, sym, subst, arith, eqb-true}
+use Rattle.std.proofs.Common.{◌≡◌, ℕ, Bool, true, false, cond, ◌+◌, ◌-◌, ◌%◌, ◌^◌, ◌<◌, ◌≤◌, List, [], ◌∷◌, Option, Some, None, IfSome, refl, sym, subst, arith, eqb-true}
 use Rattle.std.specs.Prelude.{◌==◌, length, slice_get}
 use Rattle.serde_json.specs.Data.{Data}
 use Rattle.rule_model.specs.declared.Rule.{Rule}
@@ -10,7 +10,7 @@ use Rattle.rule_model.proofs.Ranks.{high_of-rank_of}
 use Rattle.rule_model.specs.declared.words.Word.{Word}
 use Rattle.rule_model.specs.declared.words.Entry.{Entry}
 use Rattle.trace_file.specs.Values.{◌>>=◌, most, number_to, proto_in, ports_in}
-use Rattle.trace_file.specs.Ipv6Values.{number_at, part_at, of_parts, wide_number_at, rank_at, block_from, block_at, proto_at, ports_at, rule_at, ipv6_word, word_at, entry_at, only_of}
+use Rattle.trace_file.specs.Ipv6Values.{number_at, part_at, of_parts, wide_number_at, rank_at, block_at, proto_at, ports_at, rule_at, ipv6_word, word_at, entry_at, only_of}
 use Rattle.trace_file.specs.Forms.{IsIpv6Rank, IsIpv6Word, IsIpv6Rule, IsIpv6Entry}
 use Rattle.trace_file.proofs.Limits.{first_step, passed, number-is, bits-is, proto-is, ports-is, All-from}
 
@@ -116,7 +116,7 @@ word6-is values at word same =
     let w8 = first_step (part_at values (at + 8)) _ word w7.2 in
     let w9 = first_step (part_at values (at + 9)) _ word w8.2 in
     let w10 = first_step (part_at values (at + 10)) _ word w9.2 in
-    let made : Word = ipv6_word w0.0 w1.0 w2.0 w3.0 w4.0 w5.0 w6.0 w7.0 w8.0 w9.0 w10.0 in
+    let made : Word = ipv6_word (w0.0 ∷ w1.0 ∷ w2.0 ∷ w3.0 ∷ w4.0 ∷ w5.0 ∷ w6.0 ∷ w7.0 ∷ w8.0 ∷ w9.0 ∷ w10.0 ∷ []) in
     let is : made ≡ word = same-found made word w10.2 in
     let l0 = part-is values at w0.0 w0.1 in
     let l1 = part-is values (at + 1) w1.0 w1.1 in

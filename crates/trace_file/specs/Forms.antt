@@ -156,8 +156,8 @@ pub record IsIpv6Rank (rank : ℕ) : Type 0 where
 
 -- a word as IPv6 has it: eleven lanes of 32 bits
 pub record IsIpv6Word (word : Word) : Type 0 where
-  pub lanes : word ≡ ipv6_word (slice_index word.lane 0) (slice_index word.lane 1) (slice_index word.lane 2) (slice_index word.lane 3) (slice_index word.lane 4)
-      (slice_index word.lane 5) (slice_index word.lane 6) (slice_index word.lane 7) (slice_index word.lane 8) (slice_index word.lane 9) (slice_index word.lane 10)
+  pub lanes : word ≡ ipv6_word (
+      slice_index word.lane 0 ∷ slice_index word.lane 1 ∷ slice_index word.lane 2 ∷ slice_index word.lane 3 ∷ slice_index word.lane 4 ∷ slice_index word.lane 5 ∷ slice_index word.lane 6 ∷ slice_index word.lane 7 ∷ slice_index word.lane 8 ∷ slice_index word.lane 9 ∷ slice_index word.lane 10 ∷ [])
   pub fits : (lane : ℕ) → slice_index word.lane lane < 2 ^ 32
 
 -- a rule as an IPv6 trace has it

@@ -80,9 +80,9 @@ rule_at values = do
     result = answer;
   })
 
--- a word of eleven lanes
-abbrev pub ipv6_word : ℕ → ℕ → ℕ → ℕ → ℕ → ℕ → ℕ → ℕ → ℕ → ℕ → ℕ → Word
-ipv6_word a b c d e f g h i j k = record { lane = a ∷ b ∷ c ∷ d ∷ e ∷ f ∷ g ∷ h ∷ i ∷ j ∷ k ∷ [] }
+-- a word of these lanes
+abbrev pub ipv6_word : List ℕ → Word
+ipv6_word lanes = record { lane = lanes }
 
 -- the word from a place on
 abbrev pub word_at : List Data → ℕ → Option Word
@@ -98,7 +98,7 @@ word_at values at = do
   i ← part_at values (at + 8)
   j ← part_at values (at + 9)
   k ← part_at values (at + 10)
-  Some (ipv6_word a b c d e f g h i j k)
+  Some (ipv6_word (a ∷ b ∷ c ∷ d ∷ e ∷ f ∷ g ∷ h ∷ i ∷ j ∷ k ∷ []))
 
 -- an entry: eleven lanes of its value, eleven of its mask, tag, result
 abbrev pub entry_at : List Data → Option Entry

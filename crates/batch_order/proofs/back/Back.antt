@@ -1,6 +1,6 @@
 -- A commit that is turned round, with the last of its writes that stands undone.
-use Rattle.std.proofs.Common.{◌≡◌, ℕ, zero, suc, ◌+◌, ◌-◌, ◌<◌, ◌≤◌, ◌⊎◌, inl, inr, Bool, true, false, List, [], ◌∷◌, ◌++◌, length, take, drop, slice_get, get_or, Option, Some, None, refl, sym, ap, ap₂, subst, ◌∙◌, arith}
-use Rattle.std.specs.Prelude.{IsSome, is_some, nat_lt}
+use Rattle.std.proofs.Common.{◌≡◌, ℕ, zero, suc, ◌+◌, ◌-◌, ◌<◌, ◌≤◌, ◌⊎◌, inl, inr, Bool, true, false, List, [], ◌∷◌, ◌++◌, length, map, take, drop, slice_get, get_or, Option, Some, None, refl, sym, ap, ap₂, subst, ◌∙◌, arith}
+use Rattle.std.specs.Prelude.{IsSome, nat_lt}
 use Rattle.std.proofs.lemmas.List.Sums.{fold-append}
 use Rattle.std.proofs.lemmas.List.{length-map}
 use Rattle.std.proofs.lemmas.Option.{get_or_from_slice_get, slice_get-get_or}
@@ -9,8 +9,10 @@ use Rattle.rule_store.specs.Store.{StoredRules}
 use Rattle.rule_store.proofs.Sums.{take-read}
 use Rattle.tcam_device.specs.declared.Write.{Write}
 use Rattle.tcam_device.specs.declared.Write.TheVariants.{Slot, Table}
+use Rattle.tcam_device.specs.declared.Action.{Action}
+use Rattle.tcam_device.specs.declared.Action.TheVariants.{Written}
 use Rattle.tcam_device.specs.State.{IsInUse, State, apply, state_after}
-use Rattle.commit_writes.specs.Actions.{have_bits, with_drain}
+use Rattle.commit_writes.specs.Actions.{have_bits}
 use Rattle.commit_writes.specs.Bits.{FieldBits, new_bits}
 use Rattle.rule_model.specs.declared.Field.TheVariants.{Src, Dst}
 use Rattle.rule_store.specs.Batch.{set_after}
@@ -18,30 +20,47 @@ use Rattle.tcam_device.specs.Insertion.{is_table_write}
 use Rattle.commit_writes.specs.Changes.{during_of}
 use Rattle.batch_order.specs.declared.Placement.{Placement}
 use Rattle.batch_order.specs.declared.Step.TheVariants as step
-use Rattle.batch_order.specs.Managed.{HeldCommit, Managed}
-use Rattle.batch_order.proofs.under_way.Left.{word_at}
+use Rattle.batch_order.specs.Managed.{HeldCommit, Managed, Way}
+use Rattle.batch_order.proofs.under_way.Drains.{due_map, not_drained}
+use Rattle.batch_order.proofs.under_way.Left.{steps_as, word_at}
 use Rattle.commit_writes.specs.Undo.{restoring, undo_writes}
 use Rattle.commit_writes.proofs.Actions.{undo-append}
 use Rattle.commit_writes.proofs.Undone.{restored}
 use Rattle.batch_order.specs.declared.held.Held.{Held}
 use Rattle.batch_order.specs.declared.translation.Translation.{Translation}
 use Rattle.batch_order.specs.Entries.{Entries}
-use Rattle.batch_order.specs.Kept.{IsManaged, IsPrepared, bits_after, bits_of, current_of, held_of, held_writes, mode_of, most_made, one_less, settled_state, state_of}
+use Rattle.batch_order.specs.Kept.{IsManaged, IsPrepared, bits_after, bits_of, course_of, current_of, held_of, held_writes, mode_of, one_less, settled_state, state_of, way_of}
 use Rattle.batch_order.specs.Planning.{as_write, as_writes, all_writes}
-use Rattle.batch_order.specs.Steps.{Steps, StepsBack, StepsEither, current_back, due_write, next_of}
+use Rattle.batch_order.specs.Steps.{Steps, StepsOn, awaits_drain, current_by, due_write, is_drain_next, next_of, way_by}
 use Rattle.batch_order.proofs.under_way.Carried.{held_size, view_of}
 use Rattle.batch_order.proofs.under_way.OnWay.{managed_at}
 use Rattle.batch_order.proofs.back.Restored.{length-restorings, restoring_in_use, restoring_read}
 use Rattle.batch_order.proofs.arranged.Walked.{all_at}
 
--- the undo write that is next of a commit that is turned round
+-- what is left of a commit that is turned round, and what is next
+pub back_actions : (translation : Option Translation) (rules : StoredRules) (kept : Entries) (slots : Slots) (held : Held) (undone : ℕ) → held.turned ≡ Some undone
+    → (held_of translation slots rules.rules kept.entries held).actions ≡ map Written (undo_writes (settled_state translation kept.entries slots) (take held.made (held_writes kept.entries held)))
+back_actions translation rules kept slots held undone turned =
+    ap (λ (t : Option ℕ). course_of t held.awaits (drop held.made (held_writes kept.entries held)) (undo_writes (settled_state translation kept.entries slots) (take held.made (held_writes kept.entries held)))) turned
+
 pub back_next : (translation : Option Translation) (rules : StoredRules) (kept : Entries) (slots : Slots) (held : Held) (undone : ℕ) → held.turned ≡ Some undone
     → next_of (Some (held_of translation slots rules.rules kept.entries held)) ≡ slice_get (undo_writes (settled_state translation kept.entries slots) (take held.made (held_writes kept.entries held))) 0
 back_next translation rules kept slots held undone turned =
-    ap (λ (t : Option ℕ). elim t [
-      | None ↦ due_write (with_drain held.awaits (drop (most_made held) (held_writes kept.entries held)))
-      | Some undone ↦ slice_get (undo_writes (settled_state translation kept.entries slots) (take held.made (held_writes kept.entries held))) 0
-    ]) turned
+    ap due_write (back_actions translation rules kept slots held undone turned)
+    ∙ due_map (undo_writes (settled_state translation kept.entries slots) (take held.made (held_writes kept.entries held)))
+
+pub back_undrained : (translation : Option Translation) (rules : StoredRules) (kept : Entries) (slots : Slots) (held : Held) (undone : ℕ) → held.turned ≡ Some undone
+    → awaits_drain (Some (held_of translation slots rules.rules kept.entries held)) ≡ false
+back_undrained translation rules kept slots held undone turned =
+    ap is_drain_next (back_actions translation rules kept slots held undone turned)
+    ∙ not_drained (undo_writes (settled_state translation kept.entries slots) (take held.made (held_writes kept.entries held)))
+
+-- with none that stands none is next
+pub none_back : (translation : Option Translation) (rules : StoredRules) (kept : Entries) (slots : Slots) (held : Held) (undone : ℕ) → held.turned ≡ Some undone → held.made ≡ 0
+    → next_of (Some (held_of translation slots rules.rules kept.entries held)) ≡ None
+none_back translation rules kept slots held undone turned none =
+    back_next translation rules kept slots held undone turned
+    ∙ ap (λ n. slice_get (undo_writes (settled_state translation kept.entries slots) (take n (held_writes kept.entries held))) 0) none
 
 module _ (translation : Option Translation) (rules : StoredRules) (kept : Entries) (slots : Slots) (held : Held) (managed : IsManaged translation rules kept slots (Some held)) (undone : ℕ) (turned : held.turned ≡ Some undone) where
   abbrev writes : List Write
@@ -177,8 +196,8 @@ module _ (translation : Option Translation) (rules : StoredRules) (kept : Entrie
   abbrev before_it : ℕ → State
   before_it k = state_after (settled_state translation kept.entries slots) (take k (held_writes kept.entries held))
 
-  abbrev back_view : ℕ → State → List Write → FieldBits → Managed
-  back_view most s undo current = record {
+  abbrev back_view : List Action → Way → State → FieldBits → Managed
+  back_view left w s current = record {
     slots = length slots;
     mode = mode_of translation;
     placement = placement;
@@ -187,9 +206,8 @@ module _ (translation : Option Translation) (rules : StoredRules) (kept : Entrie
     state = s;
     held = Some (record {
       prepared = held.prepared;
-      actions = with_drain held.awaits (drop most (held_writes kept.entries held));
-      undo = undo;
-      turned = held.turned;
+      actions = left;
+      way = w;
       counts = held.counts;
       rules = set_after rules.rules held.batch;
       during = during_of held.bits;
@@ -201,12 +219,12 @@ module _ (translation : Option Translation) (rules : StoredRules) (kept : Entrie
   abbrev current_then : Bool → FieldBits
   current_then b = let drained : Bool = elim b [ true ↦ false | false ↦ held.drained ] in elim drained [ true ↦ during_of held.bits | false ↦ bits_of translation ]
 
-  current_same : (b : Bool) → current_then b ≡ current_back (bits_of translation) (current_of translation held) b
+  current_same : (b : Bool) → current_then b ≡ current_by (bits_of translation) (current_of translation held) b
   current_same true = refl
   current_same false = refl
 
   current_is : (k : ℕ) (write last : Write) → held.made ≡ suc k → slice_get (held_writes kept.entries held) k ≡ Some last → restoring (before_it k) last ≡ write
-      → current_then (nat_lt (held.made - 1) held.counts.words) ≡ current_back (bits_of translation) (current_of translation held) (is_table_write write)
+      → current_then (nat_lt (held.made - 1) held.counts.words) ≡ current_by (bits_of translation) (current_of translation held) (is_table_write write)
   current_is k write last stands read same =
       let kind : is_table_write last ≡ is_table_write write = sym (restoring_kind (before_it k) last) ∙ ap is_table_write same in
       let less : held.made - 1 ≡ k = omega arith in
@@ -214,11 +232,11 @@ module _ (translation : Option Translation) (rules : StoredRules) (kept : Entrie
         | inl is ↦
             let inside : k < held.counts.words = is.1 in
             let below : nat_lt (held.made - 1) held.counts.words ≡ true = ap (λ n. nat_lt n held.counts.words) less ∙ grind arith in
-            ap current_then below ∙ current_same true ∙ ap (current_back (bits_of translation) (current_of translation held)) (sym is.0 ∙ kind)
+            ap current_then below ∙ current_same true ∙ ap (current_by (bits_of translation) (current_of translation held)) (sym is.0 ∙ kind)
         | inr is ↦
             let past : held.counts.words ≤ k = is.1 in
             let above : nat_lt (held.made - 1) held.counts.words ≡ false = ap (λ n. nat_lt n held.counts.words) less ∙ grind arith in
-            ap current_then above ∙ current_same false ∙ ap (current_back (bits_of translation) (current_of translation held)) (sym is.0 ∙ kind)
+            ap current_then above ∙ current_same false ∙ ap (current_by (bits_of translation) (current_of translation held)) (sym is.0 ∙ kind)
       ]
 
   -- the step back
@@ -246,16 +264,20 @@ module _ (translation : Option Translation) (rules : StoredRules) (kept : Entrie
           sym last.1.state ∙ ap (apply (state_of translation kept.entries slots (Some held))) same in
           let undo : undo_writes (settled_state translation kept.entries slots) (take held.made (held_writes kept.entries held)) ≡ write ∷ undo_writes (settled_state translation kept.entries slots) (take (held.made - 1) (held_writes kept.entries held)) =
           last.1.undo ∙ ap₂ (λ (w : Write) (n : ℕ). w ∷ undo_writes (settled_state translation kept.entries slots) (take n (held_writes kept.entries held))) same (sym less) in
-          let most : most_made (one_less held) ≡ most_made held =
-          ap (λ (t : Option ℕ). elim t [ None ↦ held.made - 1 | Some n ↦ n ]) turned ∙ sym (ap (λ (t : Option ℕ). elim t [ None ↦ held.made | Some n ↦ n ]) turned) in
           let behind : List Write = undo_writes (settled_state translation kept.entries slots) (take (held.made - 1) (held_writes kept.entries held)) in
-          let did : StepsBack old one undone (write ∷ behind) (step.Wrote write) (view_of placement translation rules kept slots (Some (one_less held))) = (
+          let stood : List Write = undo_writes (settled_state translation kept.entries slots) (take held.made (held_writes kept.entries held)) in
+          let before : State = state_of translation kept.entries slots (Some held) in
+          let left : course_of held.turned held.awaits (drop (held.made - 1) (held_writes kept.entries held)) behind ≡ map Written behind =
+          ap (λ (t : Option ℕ). course_of t held.awaits (drop (held.made - 1) (held_writes kept.entries held)) behind) turned in
+          let way : way_of held.turned behind ≡ way_by before write (way_of held.turned stood) =
+          ap (λ (t : Option ℕ). way_of t behind) turned ∙ sym (ap (λ (t : Option ℕ). way_by before write (way_of t stood)) turned) in
+          let did : StepsOn old one words (Written write ∷ map Written behind) (step.Wrote write) (view_of placement translation rules kept slots (Some (one_less held))) = (
             refl,
-            ap₂ (λ (n : ℕ) (s : State). back_view n s behind (current_then (nat_lt (held.made - 1) held.counts.words))) most state
-                ∙ ap (back_view (most_made held) (apply (state_of translation kept.entries slots (Some held)) write) behind) (current_is k write last.0 is last.1.read same),
+            ap₂ (λ (a : List Action) (w : Way). back_view a w (state_of translation kept.entries slots (Some (one_less held))) (current_then (nat_lt (held.made - 1) held.counts.words))) left way
+                ∙ ap₂ (back_view (map Written behind) (way_by before write (way_of held.turned stood))) state (current_is k write last.0 is last.1.read same),
           ) in
-          subst (λ (t : Option ℕ). StepsEither old one words t (step.Wrote write) (view_of placement translation rules kept slots (Some (one_less held)))) (sym turned)
-          (subst (λ (ws : List Write). StepsBack old one undone ws (step.Wrote write) (view_of placement translation rules kept slots (Some (one_less held)))) (sym undo) did)
+          steps_as old one words (Written write ∷ map Written behind) (step.Wrote write) (view_of placement translation rules kept slots (Some (one_less held)))
+          (back_actions translation rules kept slots held undone turned ∙ ap (map Written) undo) did
 
   pub back_after : IsSome (next_of (view_of placement translation rules kept slots (Some held)).held) → IsManaged translation rules kept slots (Some (one_less held))
   back_after next = go (next_of (view_of placement translation rules kept slots (Some held)).held) refl next
@@ -265,8 +287,3 @@ module _ (translation : Option Translation) (rules : StoredRules) (kept : Entrie
       go (Some write) is some =
           managed_back translation rules kept slots held managed undone turned
           (undone_state translation rules kept slots held managed undone turned write (sym (back_next translation rules kept slots held undone turned) ∙ is)).0
-
--- one that is turned round
-pub turned_of : (turned : Option ℕ) → is_some turned ≡ true → (undone : ℕ) × (turned ≡ Some undone)
-turned_of None is = absurd (let clash : false ≡ true = is in cc)
-turned_of (Some undone) is = (undone, refl)

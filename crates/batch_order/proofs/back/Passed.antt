@@ -1,18 +1,21 @@
 -- A commit's undo writes are those of the writes that led to where it stands, so going back passes no other state.
-use Rattle.std.proofs.Common.{◌≡◌, ℕ, zero, suc, ◌-◌, ◌≤◌, Option, Some, None, List, [], ◌∷◌, ◌++◌, length, take, inl, inr, ◌⊎◌, refl, sym, ◌∙◌, ap, subst, arith}
+use Rattle.std.proofs.Common.{◌≡◌, ◌-◌, ◌≤◌, Option, Some, None, List, [], ◌∷◌, ◌++◌, length, take, inl, inr, ◌⊎◌, refl, sym, ◌∙◌, ap, subst, arith}
 use Rattle.std.specs.Prelude.{IfSome}
 use Rattle.tcam_device.specs.declared.Write.{Write}
 use Rattle.tcam_device.specs.State.{State, apply, state_after}
+use Rattle.tcam_device.specs.Flight.{writes_in}
 use Rattle.tcam_device.proofs.Spans.{state_after-append}
 use Rattle.tcam_device.specs.declared.Action.{Action}
 use Rattle.tcam_device.specs.declared.Action.TheVariants.{Written, Drained}
 use Rattle.commit_writes.specs.Undo.{restoring, undo_writes}
 use Rattle.commit_writes.proofs.Undone.{restored, undo_passes, undo_ends, length-undo_writes}
 use Rattle.commit_writes.proofs.Actions.{undo-append}
-use Rattle.batch_order.specs.declared.Step.{Step}
-use Rattle.batch_order.specs.Managed.{Managed, HeldCommit}
-use Rattle.batch_order.specs.Steps.{Steps, StepsEither, StepsOn, StepsBack}
+use Rattle.batch_order.specs.Managed.{Managed, HeldCommit, Way}
+use Rattle.batch_order.specs.Managed.Way.{On, Back}
+use Rattle.batch_order.specs.Steps.{Steps, way_by}
+use Rattle.batch_order.specs.Turning.{undo_in, undo_of}
 use Rattle.batch_order.specs.Passed.{GoesBack, GoesBackFrom, HasWayBack, WayBackFrom, StepsKeepWayBack, GoesBackThroughStates}
+use Rattle.batch_order.proofs.under_way.Stepped.{HasStepped, left_held, stepped}
 
 -- some writes are none, or others and a last one
 last_of : (writes : List Write) → (writes ≡ []) ⊎ ((front : List Write) × (last : Write) × (writes ≡ front ++ last ∷ []))
@@ -55,30 +58,29 @@ way_back begun state write undo way = elim (last_of way.made) [
 with_held : (begun : State) (new next : Managed) → new ≡ next → WayBackFrom begun next → WayBackFrom begun new
 with_held begun new next same way = subst (WayBackFrom begun) (sym same) way
 
-forward : (begun : State) (old : Managed) (held : HeldCommit) (words : ℕ) (actions : List Action) (made : Step) (new : Managed) → old.held ≡ Some held
-    → HasWayBack begun old.state held.undo → StepsOn old held words actions made new → WayBackFrom begun new
-forward begun old held words [] made new is way did = with_held begun new _ did.1 tt
-forward begun old held words (Written write ∷ actions) made new is way did = with_held begun new _ did.1 (way_on begun old.state held.undo write way)
-forward begun old held zero (Drained ∷ actions) made new is way did = with_held begun new _ did.1 way
-forward begun old held (suc words) (Drained ∷ actions) made new is way did =
-    with_held begun new old did.1 (subst (λ h. IfSome h (λ x. HasWayBack begun old.state x.undo)) (sym is) way)
+-- a write made, either way
+wrote : (begun : State) (state : State) (held : HeldCommit) (write : Write) (actions : List Action) (one : Way) → held.way ≡ one → held.actions ≡ Written write ∷ actions
+    → HasWayBack begun state (undo_in held.actions one) → HasWayBack begun (apply state write) (undo_in actions (way_by state write one))
+wrote begun state held write actions (On undo) is rest way = way_on begun state undo write way
+wrote begun state held write actions (Back undone) is rest way = way_back begun state write (writes_in actions) (subst (λ xs. HasWayBack begun state (writes_in xs)) rest way)
 
-backward : (begun : State) (old : Managed) (held : HeldCommit) (undone : ℕ) (undo : List Write) (made : Step) (new : Managed)
-    → HasWayBack begun old.state undo → StepsBack old held undone undo made new → WayBackFrom begun new
-backward begun old held undone [] made new way did = with_held begun new _ did.1 tt
-backward begun old held undone (write ∷ undo) made new way did = with_held begun new _ did.1 (way_back begun old.state write undo way)
-
-either : (begun : State) (old : Managed) (held : HeldCommit) (words : ℕ) (turned : Option ℕ) (made : Step) (new : Managed) → old.held ≡ Some held
-    → HasWayBack begun old.state held.undo → StepsEither old held words turned made new → WayBackFrom begun new
-either begun old held words None made new is way did = forward begun old held words held.actions made new is way did
-either begun old held words (Some undone) made new is way did = backward begun old held undone held.undo made new way did
+drained : (begun : State) (state : State) (held : HeldCommit) (actions : List Action) (one : Way) → held.actions ≡ Drained ∷ actions
+    → HasWayBack begun state (undo_in held.actions one) → HasWayBack begun state (undo_in actions one)
+drained begun state held actions (On undo) rest way = way
+drained begun state held actions (Back undone) rest way = subst (λ xs. HasWayBack begun state (writes_in xs)) rest way
 
 pub steps_keep_way_back : StepsKeepWayBack
-steps_keep_way_back begun old words made new way did = go old.held refl did
+steps_keep_way_back begun old words made new way did = go old.held refl way did
   where
-    go : (h : Option HeldCommit) → old.held ≡ h → Steps old words h made new → WayBackFrom begun new
-    go None is idle = with_held begun new old idle.1 way
-    go (Some held) is on = either begun old held words held.turned made new is (subst (λ h. IfSome h (λ x. HasWayBack begun old.state x.undo)) is way) on
+    go : (h : Option HeldCommit) → old.held ≡ h → IfSome h (λ held. HasWayBack begun old.state (undo_of held)) → Steps old words h made new → WayBackFrom begun new
+    go None is way idle = with_held begun new old idle.1 (subst (λ h. IfSome h (λ held. HasWayBack begun old.state (undo_of held))) (sym is) way)
+    go (Some held) is way on = by (stepped old words held made new on)
+      where
+        by : HasStepped old words held made new → WayBackFrom begun new
+        by (HasStepped.End actions did is) = subst (λ h. IfSome h (λ x. HasWayBack begun new.state (undo_of x))) (sym (ap (λ (m : Managed). m.held) is ∙ left_held old held held.way)) tt
+        by (HasStepped.Wrote write actions rest did is) = with_held begun new _ is (wrote begun old.state held write actions held.way refl rest way)
+        by (HasStepped.Drain actions rest did is) = with_held begun new _ is (drained begun old.state held actions held.way rest way)
+        by (HasStepped.Wait actions more rest flying did same) = with_held begun new old same (subst (λ h. IfSome h (λ x. HasWayBack begun old.state (undo_of x))) (sym is) way)
 
 pub goes_back_through_states : GoesBackThroughStates
 goes_back_through_states begun state undo way n below =
@@ -95,10 +97,10 @@ goes_back_through_states begun state undo way n below =
 pub goes_back : (begun : State) (manager : Managed) → WayBackFrom begun manager → GoesBackFrom begun manager
 goes_back begun manager way = go manager.held way
   where
-    go : (h : Option HeldCommit) → IfSome h (λ held. HasWayBack begun manager.state held.undo) → IfSome h (λ held. GoesBack begun manager.state held.undo)
+    go : (h : Option HeldCommit) → IfSome h (λ held. HasWayBack begun manager.state (undo_of held)) → IfSome h (λ held. GoesBack begun manager.state (undo_of held))
     go None way = tt
     go (Some held) way = record {
-      passes = goes_back_through_states begun manager.state held.undo way;
-      ends = ap (λ s. state_after s held.undo) way.state_is ∙ ap (state_after (state_after begun way.made)) way.undo_is
+      passes = goes_back_through_states begun manager.state (undo_of held) way;
+      ends = ap (λ s. state_after s (undo_of held)) way.state_is ∙ ap (state_after (state_after begun way.made)) way.undo_is
           ∙ sym (state_after-append begun way.made (undo_writes begun way.made)) ∙ undo_ends begun way.made;
     }

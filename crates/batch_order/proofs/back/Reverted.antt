@@ -1,8 +1,7 @@
 -- A commit that was taken back: the manager is as it was before it.
-use Rattle.std.proofs.Common.{◌≡◌, ℕ, zero, suc, ◌-◌, true, List, [], length, take, map, Option, Some, None, refl, sym, ap, subst, ◌∙◌}
+use Rattle.std.proofs.Common.{◌≡◌, ℕ, zero, suc, ◌-◌, true, [], length, take, map, Option, Some, None, refl, sym, ap, subst, ◌∙◌}
 use Rattle.slot_pool.specs.Arrangement.{Slots}
 use Rattle.rule_store.specs.Store.{StoredRules}
-use Rattle.tcam_device.specs.declared.Write.{Write}
 use Rattle.tcam_device.specs.declared.Action.TheVariants.{Written}
 use Rattle.tcam_device.specs.State.{State, state_after}
 use Rattle.commit_writes.specs.Undo.{undo_writes}
@@ -11,12 +10,14 @@ use Rattle.batch_order.specs.declared.Step.TheVariants as step
 use Rattle.batch_order.specs.declared.held.Held.{Held}
 use Rattle.batch_order.specs.declared.translation.Translation.{Translation}
 use Rattle.batch_order.specs.Entries.{Entries, KeepEntries}
-use Rattle.batch_order.specs.Kept.{IsManaged, IsPrepared, bits_of, held_of, held_writes, mode_of, settled_state}
-use Rattle.batch_order.specs.Managed.{HeldCommit, Managed, actions_due}
+use Rattle.batch_order.specs.Kept.{IsManaged, IsPrepared, bits_of, held_of, held_writes, mode_of, settled_state, way_of}
+use Rattle.batch_order.specs.Managed.{HeldCommit, Managed, Way}
+use Rattle.batch_order.specs.Managed.Way.{Back}
 use Rattle.batch_order.specs.Planning.{as_writes}
-use Rattle.batch_order.specs.Steps.{IsAllMade, Steps, StepsBack, StepsEither, cancelled}
-use Rattle.batch_order.proofs.back.Back.{last_one}
+use Rattle.batch_order.specs.Steps.{IsAllMade, Steps, StepsOn, cancelled, end_answer, left_by}
+use Rattle.batch_order.proofs.back.Back.{back_actions, last_one}
 use Rattle.batch_order.proofs.under_way.Carried.{view_of}
+use Rattle.batch_order.proofs.under_way.Left.{steps_as}
 use Rattle.batch_order.proofs.planning.Refused.{managed_same, view_same}
 
 -- the new ids are live no more, and the others keep their entries
@@ -50,11 +51,8 @@ module _ (translation : Option Translation) (rules : StoredRules) (kept kept' : 
       ∙ ap (λ n. idle_in placement (state_after (settled_state translation kept.entries slots) (take n (held_writes kept.entries held)))) (sym none)
 
   module _ (undone : ℕ) (turned : held.turned ≡ Some undone) (placement : Placement) where
-    due_is : actions_due (held_of translation slots rules.rules kept.entries held) ≡ map Written (undo_writes (settled_state translation kept.entries slots) (take held.made (held_writes kept.entries held)))
-    due_is = ap (λ (t : Option ℕ). elim t [
-      | None ↦ (held_of translation slots rules.rules kept.entries held).actions
-      | Some n ↦ map Written (undo_writes (settled_state translation kept.entries slots) (take held.made (held_writes kept.entries held)))
-    ]) turned
+    due_is : (held_of translation slots rules.rules kept.entries held).actions ≡ map Written (undo_writes (settled_state translation kept.entries slots) (take held.made (held_writes kept.entries held)))
+    due_is = back_actions translation rules kept slots held undone turned
 
     none_stands : IsAllMade (view_of placement translation rules kept slots (Some held)).held → held.made ≡ 0
     none_stands all = go held.made refl
@@ -73,10 +71,12 @@ module _ (translation : Option Translation) (rules : StoredRules) (kept kept' : 
         let none : held.made ≡ 0 = none_stands all in
         let undo : undo_writes (settled_state translation kept.entries slots) (take held.made (held_writes kept.entries held)) ≡ [] =
         ap (λ n. undo_writes (settled_state translation kept.entries slots) (take n (held_writes kept.entries held))) none in
-        let did : StepsBack old one undone [] (step.Reverted undone) (view_of placement translation rules kept' slots None) = (
-          refl,
+        let goes : way_of held.turned (undo_writes (settled_state translation kept.entries slots) (take held.made (held_writes kept.entries held))) ≡ Back undone =
+        ap (λ (t : Option ℕ). way_of t (undo_writes (settled_state translation kept.entries slots) (take held.made (held_writes kept.entries held)))) turned in
+        let did : StepsOn old one words [] (step.Reverted undone) (view_of placement translation rules kept' slots None) = (
+          sym (ap (λ (w : Way). end_answer w held.counts) goes),
           view_same placement translation rules rules (record kept { live = way.before }) kept' slots idle refl keeps
-              ∙ ap (λ n. idle_in placement (state_after (settled_state translation kept.entries slots) (take n (held_writes kept.entries held)))) (sym none),
+              ∙ ap (λ n. idle_in placement (state_after (settled_state translation kept.entries slots) (take n (held_writes kept.entries held)))) (sym none)
+              ∙ sym (ap (left_by old one) goes),
         ) in
-        subst (λ (t : Option ℕ). StepsEither old one words t (step.Reverted undone) (view_of placement translation rules kept' slots None)) (sym turned)
-        (subst (λ (ws : List Write). StepsBack old one undone ws (step.Reverted undone) (view_of placement translation rules kept' slots None)) (sym undo) did)
+        steps_as old one words [] (step.Reverted undone) (view_of placement translation rules kept' slots None) (due_is ∙ ap (map Written) undo) did

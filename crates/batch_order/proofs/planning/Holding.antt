@@ -11,6 +11,7 @@ use Rattle.rule_store.specs.Batch.{ChangesRules, IsSound, set_after}
 use Rattle.rule_store.specs.Store.{StoredRules}
 use Rattle.tcam_device.specs.declared.Write.{Write}
 use Rattle.tcam_device.specs.State.{State, state_after, on_device}
+use Rattle.tcam_device.specs.declared.Action.{Action}
 use Rattle.commit_writes.specs.Actions.{have_bits, with_drain}
 use Rattle.commit_writes.specs.Bits.{FieldBits, bits_with, bits_left, new_bits}
 use Rattle.commit_writes.specs.Serving.{AreBitsOf, HaveFreeBits}
@@ -29,9 +30,10 @@ use Rattle.batch_order.specs.ByParts.{longest_parts, longest_planned_parts}
 use Rattle.batch_order.specs.Entries.{AddsIds, Entries}
 use Rattle.batch_order.specs.Planning.{as_writes}
 use Rattle.batch_order.proofs.planning.Refused.{adds_first, adds_last}
-use Rattle.batch_order.specs.Kept.{IsManaged, IsArranged, bits_of, changed_by, held_of, held_writes, mode_of, settled_state, tables_of, translation_after}
+use Rattle.batch_order.specs.Kept.{IsManaged, IsArranged, bits_of, changed_by, course_of, held_of, held_writes, mode_of, settled_state, tables_of, translation_after, way_of}
 use Rattle.batch_order.specs.Kept as kept
-use Rattle.batch_order.specs.Managed.{CanRestart, HeldCommit, Holds, commit_of}
+use Rattle.batch_order.specs.Managed.{CanRestart, HeldCommit, Holds, Way, commit_of}
+use Rattle.batch_order.specs.Managed.Way.{On}
 use Rattle.batch_order.proofs.served.FromRest.{BeginsAtRest, answers_all, begin, restarts_all, serves_first, serves_then, words_come_first}
 use Rattle.batch_order.proofs.planning.Judged.{idle_count}
 use Rattle.batch_order.proofs.arranged.Unchanged.{arranged_same}
@@ -215,12 +217,11 @@ module _ (placement : Placement) (translation : Option Translation) (rules rules
         uncrossed = λ device_slots wide version routes changes. (made_by device_slots).uncrossed version routes changes;
       }
     where
-      commit : Bool → Option ℕ → Bool → List Write → List Write → FieldBits → FieldBits → FieldBits → List Rule → HeldCommit
-      commit prepared turned awaits all undo meanwhile behind current set = record {
+      commit : Bool → Way → List Action → FieldBits → FieldBits → FieldBits → List Rule → HeldCommit
+      commit prepared way left meanwhile behind current set = record {
         prepared = prepared;
-        actions = with_drain awaits all;
-        undo = undo;
-        turned = turned;
+        actions = left;
+        way = way;
         counts = held.counts;
         rules = set;
         during = meanwhile;
@@ -228,12 +229,15 @@ module _ (placement : Placement) (translation : Option Translation) (rules rules
         current = current;
       }
 
+      undo : ℕ → List Write
+      undo n = undo_writes begun (take n writes)
+
       drains : held.awaits ≡ have_bits (new_bits bits (during_by translation rules batch))
       drains = holds.awaits ∙ ap (λ b. have_bits (new_bits bits b)) holds.coded.during
 
       commit_is : held_of translation slots rules'.rules new.entries held ≡ commit_of (view_of placement translation rules old slots None) batch writes held.counts
       commit_is =
-          ap₂ (λ (p : Bool) (t : Option ℕ). commit p t held.awaits (drop (elim t [ None ↦ held.made | Some undone ↦ undone ]) writes) (undo_writes begun (take held.made writes)) (during_of held.bits) (kept.bits_after rules'.rules held) (elim held.drained [ true ↦ during_of held.bits | false ↦ bits ]) (set_after rules'.rules held.batch)) holds.prepared holds.forward
-          ∙ ap₂ (λ (n : ℕ) (b : Bool). commit true None held.awaits (drop n writes) (undo_writes begun (take n writes)) (during_of held.bits) (kept.bits_after rules'.rules held) (elim b [ true ↦ during_of held.bits | false ↦ bits ]) (set_after rules'.rules held.batch)) holds.made holds.undrained
-          ∙ ap₂ (λ (b : Bool) (d : FieldBits). commit true None b writes [] d (kept.bits_after rules'.rules held) bits (set_after rules'.rules held.batch)) drains holds.coded.during
-          ∙ ap₂ (λ (l : FieldBits) (r : List Rule). commit true None (have_bits (new_bits bits (during_by translation rules batch))) writes [] (during_by translation rules batch) l bits r) left sets
+          ap₂ (λ (p : Bool) (t : Option ℕ). commit p (way_of t (undo held.made)) (course_of t held.awaits (drop held.made writes) (undo held.made)) (during_of held.bits) (kept.bits_after rules'.rules held) (elim held.drained [ true ↦ during_of held.bits | false ↦ bits ]) (set_after rules'.rules held.batch)) holds.prepared holds.forward
+          ∙ ap₂ (λ (n : ℕ) (b : Bool). commit true (On (undo n)) (with_drain held.awaits (drop n writes)) (during_of held.bits) (kept.bits_after rules'.rules held) (elim b [ true ↦ during_of held.bits | false ↦ bits ]) (set_after rules'.rules held.batch)) holds.made holds.undrained
+          ∙ ap₂ (λ (b : Bool) (d : FieldBits). commit true (On []) (with_drain b writes) d (kept.bits_after rules'.rules held) bits (set_after rules'.rules held.batch)) drains holds.coded.during
+          ∙ ap₂ (λ (l : FieldBits) (r : List Rule). commit true (On []) (with_drain (have_bits (new_bits bits (during_by translation rules batch))) writes) (during_by translation rules batch) l bits r) left sets

@@ -24,6 +24,7 @@ use Rattle.tcam_device.specs.declared.Write.{Write}
 use Rattle.tcam_device.specs.State.{State, state_after}
 use Rattle.tcam_device.specs.Insertion.{Insertion}
 use Rattle.tcam_device.proofs.Lookups.{HitAsPieces}
+use Rattle.commit_writes.specs.Proposal.{proposal}
 use Rattle.commit_writes.specs.declared.Done.{Done}
 use Rattle.commit_writes.specs.declared.Rewrite.{Rewrite}
 use Rattle.commit_writes.specs.Bits.{FieldBits}
@@ -106,7 +107,7 @@ parts_each held piece state (planned ∷ rest) all =
     ap₂ (λ (first : ℕ) (behind : List ℕ). first ∷ behind) (ap insertion_parts all.0) (parts_each held piece (state_after state (map (write_for held) planned.moves)) rest all.1)
 
 module _ (mode : Mode) (bits : FieldBits) (start : State) (rules : List Rule) (batch : List Command) (live : List LivePiece) (slots : Slots) (held : IdEntries) (planned : List Planned) (rewrites : List Rewrite) (erased : List ℕ)
-    (plan : IsPlannedBatch mode bits start rules batch live slots held planned rewrites erased) where
+    (plan : IsPlannedBatch (proposal mode bits rules batch) start live slots held planned rewrites erased) where
   abbrev old : List RankedPiece
   old = set_pieces mode bits rules
 

@@ -12,7 +12,6 @@ use Rattle.batch_order.specs.ByParts.{longest_parts, paired_number, part_number,
 use Rattle.batch_order.specs.CarriedOut.{writes_left}
 use Rattle.batch_order.specs.Entries.{Entries}
 use Rattle.batch_order.specs.Kept.{IsManaged, held_of, held_writes, settled_state, state_of}
-use Rattle.batch_order.specs.Managed.{HeldCommit}
 use Rattle.batch_order.specs.Planning.{as_writes}
 use Rattle.batch_order.specs.declared.held.Held.{Held}
 use Rattle.batch_order.specs.declared.translation.Translation.{Translation}
@@ -56,11 +55,9 @@ paired_more writes undo n write before one two = let e : n + 1 ≡ suc n = omega
 pub left_whole : (translation : Option Translation) (rules : StoredRules) (kept : Entries) (slots : Slots) (held : Held) → IsUnwritten held
     → writes_left (Some (held_of translation slots rules.rules kept.entries held)) ≡ held_writes kept.entries held
 left_whole translation rules kept slots held is =
-    let one : HeldCommit = held_of translation slots rules.rules kept.entries held in
     let writes = held_writes kept.entries held in
-    ap (λ (t : Option ℕ). elim t [ None ↦ writes_in one.actions | Some undone ↦ one.undo ]) is.forward
-    ∙ (ap writes_in (forward_actions translation rules kept slots held is.forward)
-    ∙ (writes_left_are held.awaits (drop held.made writes) ∙ ap (λ n. drop n writes) is.none))
+    ap writes_in (forward_actions translation rules kept slots held is.forward)
+    ∙ (writes_left_are held.awaits (drop held.made writes) ∙ ap (λ n. drop n writes) is.none)
 
 -- Its parts are those that are counted.
 pub parts_counted : (translation : Option Translation) (rules : StoredRules) (kept : Entries) (slots : Slots) (held : Held) → IsManaged translation rules kept slots (Some held) → IsUnwritten held

@@ -19,6 +19,7 @@ use Rattle.placement.proofs.Above.{is_live_from}
 use Rattle.tcam_device.specs.declared.Write.{Write}
 use Rattle.tcam_device.specs.State.{State, IsInUse, IsState, state_after}
 use Rattle.tcam_device.specs.Insertion.{is_table_write, table_writes}
+use Rattle.commit_writes.specs.Proposal.{proposal}
 use Rattle.commit_writes.specs.declared.Done.{Done}
 use Rattle.commit_writes.specs.declared.Rewrite.{Rewrite}
 use Rattle.commit_writes.specs.Bits.{FieldBits, bits_with, new_bits}
@@ -173,7 +174,7 @@ pub record IsPlanOf (placement : Placement) (translation : Option Translation) (
   pub in_use : AllByRecursion (IsInUse (length slots)) writes
   pub kept : KeepEntries old.live old.entries new.entries
   pub planned : List Planned
-  pub commit : IsPlannedBatch (mode_of translation) (during_by translation rules batch) (behind_by translation rules old slots batch) rules.rules batch old.live slots new.entries planned rewrites erased
+  pub commit : IsPlannedBatch (proposal (mode_of translation) (during_by translation rules batch) rules.rules batch) (behind_by translation rules old slots batch) old.live slots new.entries planned rewrites erased
   pub aims : map (λ insertion. insertion.aiming) planned
       ≡ aims_of placement (mode_of translation) (length slots) rules.rules (inserted_pieces (mode_of translation) (during_by translation rules batch) rules.rules batch)
   pub live_is : new.live ≡ live_after old.live planned

@@ -18,6 +18,7 @@ use Rattle.tcam_device.specs.State.{State, IsInUse, IsState, state_after, on_dev
 use Rattle.tcam_device.specs.Insertion.{is_table_write, table_writes}
 use Rattle.tcam_device.specs.Hitless.{ShowsOldOrNew}
 use Rattle.tcam_device.proofs.Wider.{slot-padded}
+use Rattle.commit_writes.specs.Proposal.{proposal}
 use Rattle.commit_writes.specs.Actions.{have_bits}
 use Rattle.commit_writes.specs.Bits.{FieldBits, bits_left, bits_with, new_bits}
 use Rattle.commit_writes.specs.InFlight.{ServesLive}
@@ -34,6 +35,7 @@ use Rattle.commit_writes.proofs.SlotWrites.{AreToSlots, LeavesTables, no_table}
 use Rattle.commit_writes.proofs.TableWrites.{all_tables, bit_writes-tables}
 use Rattle.rule_store.proofs.Counts.{count_by-append}
 use Rattle.commit_writes.specs.Changes.{during_of}
+use Rattle.readback.specs.Halt.{halt_at, parts_as_planned}
 use Rattle.readback.specs.declared.staging.Shown.{Shown}
 use Rattle.readback.specs.Going.{GoesOn, needs_drain, twin_writes}
 use Rattle.readback.specs.Tasks.{CommitPieces, Task, commit_pieces, stands_in}
@@ -47,6 +49,7 @@ use Rattle.readback.proofs.Restart.{restarts_go_on, to_slots}
 use Rattle.readback.proofs.Same.{stage_on, twin_on}
 use Rattle.readback.proofs.Served.{passed}
 use Rattle.readback.proofs.Serving.{some_stand}
+use Rattle.batch_order.specs.Arranged.{arranged_at}
 use Rattle.batch_order.specs.declared.Placement.{Placement}
 use Rattle.batch_order.specs.declared.held.Held.{Held}
 use Rattle.batch_order.specs.declared.restarting.resuming.Rest.{Rest}
@@ -66,7 +69,7 @@ use Rattle.batch_order.proofs.planning.Translated.{bits_same, kept_state, state_
 -- What is known once all is planned that is left: what the device shows and holds, and that its tables are those that are kept.
 pub record IsResumed (placement : Placement) (translation : Option Translation) (rules : StoredRules) (batch : List Command) (state : State) (shown : Shown) (old new : Entries) (slots slots' found : Slots) (rest : Rest) : Type 0 where
   pub stopped : IsStopped (length slots) (mode_of translation) (bits_of translation) rules.rules batch state shown
-  pub planned : IsPlannedOn placement (length state.slots) (mode_of translation) (bits_of translation) rules.rules batch state shown old new slots slots' rest
+  pub planned : IsPlannedOn placement (length state.slots) (proposal (mode_of translation) (bits_of translation) rules.rules batch) state shown (arranged_at old slots) (arranged_at new slots') rest
   pub as_found : IsAsFound state old found
   pub size : length found ≡ length slots
   pub tables : tables_of translation ≡ record state { slots = [] }
@@ -136,7 +139,7 @@ module _ (placement : Placement) (translation : Option Translation) (rules : Sto
   behind_words = twin_writes twin ++ batch_writes new.entries slots planned rest.left.rewrites.items rest.left.erased.items
 
   abbrev writes : List Write
-  writes = restart_writes mode bits rules.rules batch narrow twin new.entries slots planned rest.left.rewrites.items rest.left.erased.items
+  writes = restart_writes (proposal mode bits rules.rules batch) narrow twin new.entries slots planned rest.left.rewrites.items rest.left.erased.items
 
   change : IsSoundChange rules.rules batch
   change = change_of mode bits rules.rules batch on.stopped.can
@@ -149,7 +152,7 @@ module _ (placement : Placement) (translation : Option Translation) (rules : Sto
       (contents_kept old.live old.entries new.entries found on.planned.kept record { at = on.as_found.within } ∙ (on.as_found.mirrors ∙ ap (λ (n : ℕ). take n state.slots) on.size))
 
   pub writes_are : held_writes new.entries (held_by translation rules batch state slots' rest some)
-      ≡ restart_writes (mode_of translation) (bits_of translation) rules.rules batch (in_use (length slots) state) shown.stage.twin new.entries slots on.planned.plan.planned rest.left.rewrites.items rest.left.erased.items
+      ≡ restart_writes (proposal (mode_of translation) (bits_of translation) rules.rules batch) (in_use (length slots) state) shown.stage.twin new.entries slots on.planned.plan.planned rest.left.rewrites.items rest.left.erased.items
   writes_are = on.planned.plan.writes_are
 
   -- what is said of both
@@ -157,8 +160,8 @@ module _ (placement : Placement) (translation : Option Translation) (rules : Sto
   said P is = subst (λ (s : State). P s (held_writes new.entries held)) (sym start_is) (subst (P narrow) (sym writes_are) is)
 
   -- on each device with the slots in use or more it is planned so
-  pub restart_on : (device_slots : ℕ) → IsPlannedRestart device_slots (mode_of translation) (bits_of translation) rules.rules batch (in_use (length slots) state) on.planned.done on.planned.left shown.stage.twin
-      old.live slots new.entries on.planned.plan.planned rest.left.rewrites.items rest.left.erased.items
+  pub restart_on : (device_slots : ℕ) → IsPlannedRestart device_slots (proposal (mode_of translation) (bits_of translation) rules.rules batch) (in_use (length slots) state) (halt_at on.planned.done on.planned.left shown.stage.twin)
+      old.live slots new.entries (parts_as_planned on.planned.plan.planned rest.left.rewrites.items rest.left.erased.items)
   restart_on device_slots =
       let was = on.planned.plan.restart in
       let same : (at : ℕ) → slot (wide device_slots).slots at ≡ slot (wide (length state.slots)).slots at = (λ at.
@@ -175,12 +178,12 @@ module _ (placement : Placement) (translation : Option Translation) (rules : Sto
   passed_on device_slots = passed device_slots mode bits rules.rules batch narrow done left twin old.live slots new.entries planned rest.left.rewrites.items rest.left.erased.items (restart_on device_slots)
 
   pub goes_on : (device_slots : ℕ) → GoesOn (length slots) (mode_of translation) (bits_of translation) rules.rules batch (on_device device_slots (in_use (length slots) state)) on.planned.left shown.stage.twin
-      (restart_writes (mode_of translation) (bits_of translation) rules.rules batch (in_use (length slots) state) shown.stage.twin new.entries slots on.planned.plan.planned rest.left.rewrites.items rest.left.erased.items)
+      (restart_writes (proposal (mode_of translation) (bits_of translation) rules.rules batch) (in_use (length slots) state) shown.stage.twin new.entries slots on.planned.plan.planned rest.left.rewrites.items rest.left.erased.items)
   goes_on device_slots = restarts_go_on device_slots mode bits rules.rules batch narrow done left twin old.live slots new.entries planned rest.left.rewrites.items rest.left.erased.items (restart_on device_slots)
 
   -- where they lead
-  pub led : LeadsOn (mode_of translation) (bits_of translation) rules.rules batch (in_use (length slots) state) old.live slots new.entries on.planned.plan.planned rest.left.rewrites.items rest.left.erased.items
-      (restart_writes (mode_of translation) (bits_of translation) rules.rules batch (in_use (length slots) state) shown.stage.twin new.entries slots on.planned.plan.planned rest.left.rewrites.items rest.left.erased.items)
+  pub led : LeadsOn (proposal (mode_of translation) (bits_of translation) rules.rules batch) (in_use (length slots) state) old.live slots new.entries on.planned.plan.planned rest.left.rewrites.items rest.left.erased.items
+      (restart_writes (proposal (mode_of translation) (bits_of translation) rules.rules batch) (in_use (length slots) state) shown.stage.twin new.entries slots on.planned.plan.planned rest.left.rewrites.items rest.left.erased.items)
   led = restarts_lead_on (length state.slots) mode bits rules.rules batch narrow done left twin old.live slots new.entries planned rest.left.rewrites.items rest.left.erased.items (restart_on (length state.slots))
 
   -- the bits began so

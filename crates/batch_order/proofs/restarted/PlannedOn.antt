@@ -20,6 +20,7 @@ use Rattle.placement.specs.Insertion.{free_slots}
 use Rattle.tcam_device.specs.declared.Write.{Write}
 use Rattle.tcam_device.specs.Insertion.{is_table_write, table_writes}
 use Rattle.tcam_device.specs.State.{State, IsState, on_device}
+use Rattle.commit_writes.specs.Proposal.{proposal}
 use Rattle.commit_writes.specs.declared.Rewrite.{Rewrite}
 use Rattle.commit_writes.specs.Bits.{FieldBits, bits_with, new_bits}
 use Rattle.commit_writes.specs.Shape.{bit_writes, rewritten_pieces}
@@ -32,6 +33,7 @@ use Rattle.commit_writes.proofs.SlotWrites.{AreToSlots, batch_slots, no_table}
 use Rattle.commit_writes.proofs.TableWrites.{all_tables, bit_writes-tables, tables_in_use}
 use Rattle.commit_writes.proofs.Wider.{all_front, all_back}
 use Rattle.commit_writes.specs.Changes.{coded_by, during_of}
+use Rattle.readback.specs.Halt.{halt_at}
 use Rattle.readback.specs.declared.staging.Shown.{Shown}
 use Rattle.readback.specs.Going.{erased_by, inserted_by, rewritten_by, twin_writes}
 use Rattle.readback.specs.Laws.{CanCommit}
@@ -41,6 +43,7 @@ use Rattle.readback.proofs.Begun.{change_of}
 use Rattle.readback.proofs.SetBits.{bits_meanwhile, cover_meanwhile, dst_fits, src_fits}
 use Rattle.readback.specs.PlannedRest.{rest_words}
 use Rattle.readback.proofs.Narrow.{stages_narrow}
+use Rattle.batch_order.specs.Arranged.{arranged_at, left_changes}
 use Rattle.batch_order.specs.declared.Placement.{Placement}
 use Rattle.batch_order.specs.declared.plan.Plan.{Plan}
 use Rattle.batch_order.specs.declared.planned_writes.PlannedWrite.{PlannedWrite}
@@ -245,7 +248,7 @@ module _ (mode : Mode) (bits : FieldBits) (rules : List Rule) (batch : List Comm
   module _ (placement : Placement) (device_slots : ℕ) (size : length state.slots ≡ device_slots) (new : Entries) (middle slots' : Slots) (plan : Plan) (aims : List Aiming) (rest : Rest)
       (aims_are : aims ≡ aims_left placement mode bits (length slots) rules batch stopped.found.done)
       (first : AreFirstPlanned (rest_words mode bits rules batch state) shown.stage.twin plan)
-      (all : AreAllPlanned old new slots middle plan rest.plan (filter_map inserted_by stopped.found.left) aims rest.left.rewrites.items rest.left.erased.items)
+      (all : AreAllPlanned (arranged_at old slots) (arranged_at new middle) plan rest.plan (filter_map inserted_by stopped.found.left) aims rest.left.rewrites.items rest.left.erased.items)
       (adds : AddsIds old new rest.ids.items)
       (rewrites_are : AllZip (IsRewriteOf old.live) (drop (shown.stage.done - length shown.inserted.items) shown.rewritten.items) rest.left.rewrites.items)
       (erased_are : AllZip (IsIdOf old.live) (drop (shown.stage.done - length shown.inserted.items - length shown.rewritten.items) shown.erased.items) rest.left.erased.items)
@@ -269,7 +272,7 @@ module _ (mode : Mode) (bits : FieldBits) (rules : List Rule) (batch : List Comm
         ∙ (as_append new.entries rewrites (map Tabled words) (planned_twin shown.stage.twin)
         ∙ ap₂ (λ (a b : List Write). a ++ b) (as_words new.entries rewrites words) (as_twin new.entries rewrites shown.stage.twin))
 
-    rest_plan : IsRestPlan device_slots mode bits rules batch device stopped.found.done left shown.stage.twin old new slots rest.plan (aims_left placement mode bits (length slots) rules batch stopped.found.done) rewrites erased
+    rest_plan : IsRestPlan device_slots (proposal mode bits rules batch) device (halt_at stopped.found.done left shown.stage.twin) (arranged_at old slots) new rest.plan (aims_left placement mode bits (length slots) rules batch stopped.found.done) (left_changes rewrites erased)
     rest_plan = record {
       planned = planned;
       restart = restart_planned device_slots mode bits rules batch device stopped.found.done left shown.stage.twin old new slots middle plan rest.plan aims rewrites erased all
@@ -329,7 +332,7 @@ module _ (mode : Mode) (bits : FieldBits) (rules : List Rule) (batch : List Comm
         let most : new.slots ≤ most_slots = all.settled.few in
         omega arith
 
-    planned_on : IsPlannedOn placement device_slots mode bits rules batch state shown old new slots slots' rest
+    planned_on : IsPlannedOn placement device_slots (proposal mode bits rules batch) state shown (arranged_at old slots) (arranged_at new slots') rest
     unfolding rest_plan
     planned_on = record {
       done = stopped.found.done;
@@ -356,16 +359,16 @@ module _ (mode : Mode) (bits : FieldBits) (rules : List Rule) (batch : List Comm
   -- so it is where the pieces that the device shows were planned
   pub all_planned_on : (placement : Placement) (device_slots : ℕ) → length state.slots ≡ device_slots → (new : Entries) (middle slots' : Slots) (plan : Plan) (rest : Rest)
       → AreFirstPlanned (rest_words mode bits rules batch state) shown.stage.twin plan
-      → AreAllPlanned old new slots middle plan rest.plan (drop shown.stage.done shown.inserted.items)
+      → AreAllPlanned (arranged_at old slots) (arranged_at new middle) plan rest.plan (drop shown.stage.done shown.inserted.items)
       (aims_from placement mode (length slots) rules (length old.live + length (drop shown.stage.done shown.inserted.items)) shown.stage.done (drop shown.stage.done shown.inserted.items))
       rest.left.rewrites.items rest.left.erased.items
       → AddsIds old new rest.ids.items
       → AllZip (IsRewriteOf old.live) (drop (shown.stage.done - length shown.inserted.items) shown.rewritten.items) rest.left.rewrites.items
       → AllZip (IsIdOf old.live) (drop (shown.stage.done - length shown.inserted.items - length shown.rewritten.items) shown.erased.items) rest.left.erased.items
       → slots' ≡ erased_slots middle rest.left.erased.items → coded_by rest.bits ≡ mode → during_of rest.bits ≡ bits_with mode rules batch bits
-      → IsPlannedOn placement device_slots mode bits rules batch state shown old new slots slots' rest
+      → IsPlannedOn placement device_slots (proposal mode bits rules batch) state shown (arranged_at old slots) (arranged_at new slots') rest
   all_planned_on placement device_slots size new middle slots' plan rest first all adds rewrites_are erased_are arranged coded live =
       let aims : List Aiming = aims_from placement mode (length slots) rules (length old.live + length (drop put shown.inserted.items)) put (drop put shown.inserted.items) in
       planned_on placement device_slots size new middle slots' plan aims rest (aims_on placement) first
-      (subst (λ (some : List RankedPiece). AreAllPlanned old new slots middle plan rest.plan some aims rest.left.rewrites.items rest.left.erased.items) (sym inserted_shown) all)
+      (subst (λ (some : List RankedPiece). AreAllPlanned (arranged_at old slots) (arranged_at new middle) plan rest.plan some aims rest.left.rewrites.items rest.left.erased.items) (sym inserted_shown) all)
       adds rewrites_are erased_are arranged coded live

@@ -15,6 +15,7 @@ use Rattle.rule_store.specs.Verdict.{Accepted, verdict}
 use Rattle.rule_model.specs.Entry.{RankedPiece, IsEncodable}
 use Rattle.placement.specs.Live.{AreApart}
 use Rattle.tcam_device.specs.State.{State, IsState}
+use Rattle.commit_writes.specs.Proposal.{proposal}
 use Rattle.commit_writes.specs.Actions.{have_bits}
 use Rattle.commit_writes.specs.Bits.{FieldBits, bits_with, new_bits}
 use Rattle.commit_writes.specs.Changes.{during_of}
@@ -24,13 +25,14 @@ use Rattle.readback.specs.Found.{IsShown}
 use Rattle.readback.specs.Laws.{CanCommit}
 use Rattle.readback.specs.Stage.{Finds}
 use Rattle.readback.specs.Tasks.{commit_pieces, known_pieces, stands_in}
+use Rattle.batch_order.specs.Arranged.{arranged_at}
 use Rattle.batch_order.specs.declared.Placement.{Placement}
 use Rattle.batch_order.specs.declared.held.Held.{Held}
 use Rattle.batch_order.specs.declared.restarting.resuming.Rest.{Rest}
 use Rattle.batch_order.specs.declared.translation.Translation.{Translation}
 use Rattle.batch_order.specs.Entries.{Entries}
 use Rattle.batch_order.specs.Kept.{IsManaged, bits_of, held_of, mode_of, tables_of}
-use Rattle.batch_order.specs.Managed.{room_both_ways, room_needed, HasBlankTables}
+use Rattle.batch_order.specs.Managed.{room_both_ways, HasBlankTables}
 use Rattle.batch_order.specs.Restart.{Resumes, bits_in}
 use Rattle.batch_order.specs.Standing.{AreEncodable, AreStanding, IsWithTwin, managed_by, without_twin}
 use Rattle.batch_order.specs.Stopped.{IsAsFound, IsPlannedOn, IsReadAgain, IsStopped, held_from}
@@ -46,7 +48,7 @@ use Rattle.batch_order.proofs.restarted.Resumed.{bits_read, resumes, room_forwar
 pub record IsMade (slots : ℕ) (mode : Mode) (placement : Placement) (parts : Parts) (batch : List Command) (device_slots : ℕ) (state : State) (spare : ℕ) (translation : Option Translation) (rules : StoredRules) (new : Entries) (found : Slots) (held : Held) : Type 0 where
   pub managed : IsManaged translation rules new found (Some held)
   pub resumes : Resumes slots mode placement parts batch device_slots state (managed_by placement translation rules new found (Some held))
-  pub reserved : room_needed (held_of translation found rules.rules new.entries held) ≤ spare
+  pub reserved : length (held_of translation found rules.rules new.entries held).actions ≤ spare
   pub both_ways : room_both_ways (held_of translation found rules.rules new.entries held) ≤ spare
 
 -- what a device shows that was stopped
@@ -157,7 +159,7 @@ module _ {slots : ℕ} {mode : Mode} (parts : Parts) {batch : List Command} {dev
 
   module _ (placement : Placement) (found : Slots) {others : List (Option RankedPiece)} (others_are : others ≡ shown.places.items)
       (twin : IsWithTwin shown.stage.twin others old.live arranged found) {new : Entries} {slots' : Slots} {rest : Rest}
-      (planned : IsPlannedOn placement device_slots mode (bits_of translation) parts.rules.rules batch state shown old new arranged slots' rest)
+      (planned : IsPlannedOn placement device_slots (proposal mode (bits_of translation) parts.rules.rules batch) state shown (arranged_at old arranged) (arranged_at new slots') rest)
       (rules : StoredRules) (same : rules.rules ≡ parts.rules.rules) (room : length batch ≤ rules.spare) where
     found_now : IsAsFound state old found
     found_now = as_found slots mode (bits_of translation) parts.rules.rules batch state shown old arranged found stopped_so standing size apart
@@ -167,9 +169,9 @@ module _ {slots : ℕ} {mode : Mode} (parts : Parts) {batch : List Command} {dev
     resumed_now = record {
       stopped = subst (λ (r : List Rule). IsStopped (length arranged) (mode_of translation) (bits_of translation) r batch state shown) (sym same)
           (subst (λ (m : Mode). IsStopped (length arranged) m (bits_of translation) parts.rules.rules batch state shown) (sym mode_is) stopped_now);
-      planned = subst (λ (r : List Rule). IsPlannedOn placement (length state.slots) (mode_of translation) (bits_of translation) r batch state shown old new arranged slots' rest) (sym same)
-          (subst (λ (m : Mode). IsPlannedOn placement (length state.slots) m (bits_of translation) parts.rules.rules batch state shown old new arranged slots' rest) (sym mode_is)
-          (subst (λ (n : ℕ). IsPlannedOn placement n mode (bits_of translation) parts.rules.rules batch state shown old new arranged slots' rest) (sym is.size) planned));
+      planned = subst (λ (r : List Rule). IsPlannedOn placement (length state.slots) (proposal (mode_of translation) (bits_of translation) r batch) state shown (arranged_at old arranged) (arranged_at new slots') rest) (sym same)
+          (subst (λ (m : Mode). IsPlannedOn placement (length state.slots) (proposal m (bits_of translation) parts.rules.rules batch) state shown (arranged_at old arranged) (arranged_at new slots') rest) (sym mode_is)
+          (subst (λ (n : ℕ). IsPlannedOn placement n (proposal mode (bits_of translation) parts.rules.rules batch) state shown (arranged_at old arranged) (arranged_at new slots') rest) (sym is.size) planned));
       as_found = found_now;
       size = found_now.size ∙ sym standing.size;
       tables = tables_now;
@@ -197,7 +199,7 @@ module _ {slots : ℕ} {mode : Mode} (parts : Parts) {batch : List Command} {dev
         record {
           managed = subst (λ (h : Held). IsManaged translation rules new found (Some h)) same (managed_on placement translation rules batch state shown old new arranged slots' found rest held resumed_now);
           resumes = subst (λ (h : Held). Resumes slots mode placement parts batch device_slots state (managed_by placement translation rules new found (Some h))) same (resumes_now held);
-          reserved = subst (λ (h : Held). room_needed (held_of translation found rules.rules new.entries h) ≤ spare) same (room_forward translation rules batch state found new slots' rest held spare enough);
+          reserved = subst (λ (h : Held). length (held_of translation found rules.rules new.entries h).actions ≤ spare) same (room_forward translation rules batch state found new slots' rest held spare enough);
           both_ways = subst (λ (h : Held). room_both_ways (held_of translation found rules.rules new.entries h) ≤ spare) same (room_on translation rules batch state found new slots' rest held spare enough);
         }
       where

@@ -8,10 +8,12 @@ use Rattle.rule_store.specs.declared.Command.{Command}
 use Rattle.placement.specs.Placement.{Aiming}
 use Rattle.tcam_device.specs.declared.Write.{Write}
 use Rattle.tcam_device.specs.State.{State, IsState, state_after, on_device}
+use Rattle.commit_writes.specs.Proposal.{proposal}
 use Rattle.commit_writes.specs.declared.Rewrite.{Rewrite}
 use Rattle.commit_writes.specs.Bits.{FieldBits}
 use Rattle.commit_writes.specs.Planned.{planned_writes}
 use Rattle.commit_writes.specs.PlannedBatch.{IsIdOf, IsRewriteOf, erase_write, rewrite_write}
+use Rattle.readback.specs.Halt.{halt_at, parts_as_planned}
 use Rattle.readback.specs.Going.{erased_by, inserted_by, rewritten_by, twin_writes}
 use Rattle.readback.specs.Laws.{CanCommit}
 use Rattle.readback.specs.Stage.{IsCommitAt, IsTwinSlot}
@@ -20,6 +22,7 @@ use Rattle.readback.specs.PlannedRest.{rest_words, restart_writes}
 use Rattle.readback.specs.Restart.{IsPlannedRestart}
 use Rattle.readback.specs.Standing.{AreReadIds}
 use Rattle.readback.proofs.ReadIds.{stages_have_ids}
+use Rattle.batch_order.specs.Arranged.{arranged_at}
 use Rattle.batch_order.specs.declared.plan.Plan.{Plan}
 use Rattle.batch_order.specs.Entries.{Entries}
 use Rattle.batch_order.specs.Planning.{AreAllPlanned, as_writes, planned_moves, all_writes}
@@ -29,7 +32,7 @@ use Rattle.batch_order.specs.RestPlan.{PlansRest}
 
 module _ (device_slots : ℕ) (mode : Mode) (bits : FieldBits) (rules : List Rule) (batch : List Command) (state : State) (done left : List Task) (twin : Option ℕ)
     (old new : Entries) (slots middle : Slots) (plan plan' : Plan) (aims : List Aiming) (rewrites : List Rewrite) (erased : List ℕ)
-    (all : AreAllPlanned old new slots middle plan plan' (filter_map inserted_by left) aims rewrites erased) where
+    (all : AreAllPlanned (arranged_at old slots) (arranged_at new middle) plan plan' (filter_map inserted_by left) aims rewrites erased) where
   abbrev words : List Write
   words = rest_words mode bits rules batch state
 
@@ -41,7 +44,7 @@ module _ (device_slots : ℕ) (mode : Mode) (bits : FieldBits) (rules : List Rul
       → IsCommitAt (length slots) mode bits rules batch (on_device device_slots state) done left → IsTwinSlot (on_device device_slots state).slots twin
       → AreReadIds (commit_pieces mode bits rules batch) (state_after state (twin_writes twin)).slots old.live slots old.entries
       → AllZip (IsRewriteOf old.live) (filter_map rewritten_by left) rewrites → AllZip (IsIdOf old.live) (filter_map erased_by left) erased
-      → IsPlannedRestart device_slots mode bits rules batch state done left twin old.live slots new.entries all.inserted.planned rewrites erased
+      → IsPlannedRestart device_slots (proposal mode bits rules batch) state (halt_at done left twin) old.live slots new.entries (parts_as_planned all.inserted.planned rewrites erased)
   restart_planned can is stage is_twin ids rewrites_are erased_are =
       let since = all.inserted in
       let stood = stages_have_ids device_slots mode bits rules batch state done left twin old.live slots old.entries can is stage is_twin ids in
@@ -69,7 +72,7 @@ module _ (device_slots : ℕ) (mode : Mode) (bits : FieldBits) (rules : List Rul
 
   -- and so are the writes
   pub restart_written : as_writes new.entries rewrites (all_writes plan.writes) ≡ rest_words mode bits rules batch state ++ twin_writes twin
-      → as_writes new.entries rewrites (all_writes plan'.writes) ≡ restart_writes mode bits rules batch state twin new.entries slots all.inserted.planned rewrites erased
+      → as_writes new.entries rewrites (all_writes plan'.writes) ≡ restart_writes (proposal mode bits rules batch) state twin new.entries slots all.inserted.planned rewrites erased
   restart_written front =
       let since = all.inserted in
       all.writes new.entries

@@ -13,6 +13,7 @@ use Rattle.tcam_device.specs.declared.Write.{Write}
 use Rattle.tcam_device.specs.Flight.{writes_in}
 use Rattle.tcam_device.specs.Insertion.{IsUncrossed}
 use Rattle.tcam_device.specs.State.{State, IsInUse, on_device}
+use Rattle.commit_writes.specs.Proposal.{proposal}
 use Rattle.commit_writes.specs.declared.Done.{Done}
 use Rattle.commit_writes.specs.Actions.{with_drain}
 use Rattle.commit_writes.specs.Bits.{FieldBits, bits_left, bits_with, new_bits}
@@ -38,7 +39,8 @@ use Rattle.batch_order.specs.declared.restarting.resuming.Rest.{Rest}
 use Rattle.batch_order.specs.declared.translation.Translation.{Translation}
 use Rattle.batch_order.specs.Entries.{Entries}
 use Rattle.batch_order.specs.Kept.{bits_of, held_of, held_writes, mode_of, tables_of}
-use Rattle.batch_order.specs.Managed.{HasBlankTables, Managed, OnlyChangesRoutes, room_both_ways, room_needed}
+use Rattle.batch_order.specs.Managed.{HasBlankTables, Managed, OnlyChangesRoutes, room_both_ways}
+use Rattle.batch_order.specs.Managed.Way.{On}
 use Rattle.batch_order.specs.Placing.{IsRestPlacedBy}
 use Rattle.batch_order.specs.Restart.{Resumes, bits_in, has_drained, in_use}
 use Rattle.batch_order.specs.Standing.{managed_by}
@@ -98,7 +100,7 @@ module _ (placement : Placement) (translation : Option Translation) (rules : Sto
   counts = counts_of rest.plan
 
   abbrev writes : List Write
-  writes = restart_writes mode bits rules.rules batch narrow twin new.entries slots planned rest.left.rewrites.items rest.left.erased.items
+  writes = restart_writes (proposal mode bits rules.rules batch) narrow twin new.entries slots planned rest.left.rewrites.items rest.left.erased.items
 
   are : held_writes new.entries held ≡ writes
   are = writes_are placement translation rules batch state shown old new slots slots' found rest some on
@@ -118,8 +120,7 @@ module _ (placement : Placement) (translation : Option Translation) (rules : Sto
     held = Some (record {
       prepared = false;
       actions = with_drain (needs_drain mode bits rules.rules batch state) made;
-      undo = [];
-      turned = None;
+      way = On [];
       counts = counts;
       rules = later;
       during = meanwhile;
@@ -153,7 +154,7 @@ module _ (placement : Placement) (translation : Option Translation) (rules : Sto
       )
 
   -- and its insertions are those of the placement
-  placed : IsRestPlacedBy placement (length state.slots) mode bits rules.rules batch narrow done left twin writes
+  placed : IsRestPlacedBy placement (length state.slots) (proposal mode bits rules.rules batch) narrow done left twin writes
   placed = record {
     live = old.live;
     arrangement = slots;
@@ -193,7 +194,7 @@ module _ (placement : Placement) (translation : Option Translation) (rules : Sto
         writes_in_use = subst (AllByRecursion (IsInUse (length slots))) are (used_within (length slots) new.entries rest.left.rewrites.items (all_writes rest.plan.writes) on.planned.within);
         few = few_writes;
         goes_on = all.0;
-        placed = of_parts (λ set before. IsRestPlacedBy placement (length state.slots) mode before set batch narrow done left twin writes) placed;
+        placed = of_parts (λ set before. IsRestPlacedBy placement (length state.slots) (proposal mode before set batch) narrow done left twin writes) placed;
         numbers = all.1;
         uncrossed = all.2;
       }
@@ -212,8 +213,7 @@ module _ (placement : Placement) (translation : Option Translation) (rules : Sto
         held = Some (record {
           prepared = false;
           actions = with_drain (needs_drain mode before set batch state) writes;
-          undo = [];
-          turned = None;
+          way = On [];
           counts = counts;
           rules = set_after set batch;
           during = bits_with mode set batch before;
@@ -237,7 +237,7 @@ module _ (translation : Option Translation) (rules : StoredRules) (batch : List 
       let all : length (writes_in (with_drain one.awaits made)) ≡ length made = ap length (writes_left_are one.awaits made) in
       omega arith
 
-  pub room_forward : (spare : ℕ) → 2 * length (all_writes rest.plan.writes) + 1 ≤ spare → room_needed (held_of translation found rules.rules new.entries (held_by translation rules batch state slots' rest some)) ≤ spare
+  pub room_forward : (spare : ℕ) → 2 * length (all_writes rest.plan.writes) + 1 ≤ spare → length (held_of translation found rules.rules new.entries (held_by translation rules batch state slots' rest some)).actions ≤ spare
   room_forward spare enough =
       let size : length made ≡ length (all_writes rest.plan.writes) = held_size new.entries one in
       let actions : length (with_drain one.awaits made) ≤ length made + 1 = length_drain one.awaits made in

@@ -1,5 +1,5 @@
 -- What a manager's device is between commits, and that it serves the ranges for which the words in flight are current.
-use Rattle.std.proofs.Common.{◌≡◌, ℕ, ◌≤◌, Bool, true, false, Option, List, ◌++◌, length, take, Some, None, Contains, append-nil, inl, inr, refl, sym, ap, subst, ◌∙◌, arith}
+use Rattle.std.proofs.Common.{◌≡◌, ℕ, ◌≤◌, Bool, true, false, Option, List, ◌++◌, length, drop, take, Some, None, Contains, append-nil, inl, inr, refl, sym, ap, subst, ◌∙◌, arith}
 use Rattle.std.specs.List.{AllByRecursion}
 use Rattle.std.proofs.lemmas.Bool.{cases_lt}
 use Rattle.std.proofs.lemmas.List.{length-map}
@@ -14,12 +14,13 @@ use Rattle.rule_store.specs.Store.{StoredRules}
 use Rattle.rule_store.specs.Verdict.{coded_ranges, pieces_of}
 use Rattle.rule_model.specs.Entry.{RankedPiece}
 use Rattle.range_bits.proofs.Given.{kept_ranges-parts}
+use Rattle.tcam_device.specs.declared.Action.{Action}
 use Rattle.tcam_device.specs.declared.Write.{Write}
 use Rattle.tcam_device.specs.State.{State, IsInUse, state_after, on_device}
 use Rattle.tcam_device.specs.Order.{IsOrdered}
 use Rattle.tcam_device.proofs.Wider.{all_take, state_after-on_device}
 use Rattle.commit_writes.specs.Bits.{FieldBits, bits_left, bits_with, new_bits}
-use Rattle.commit_writes.specs.Actions.{have_bits}
+use Rattle.commit_writes.specs.Actions.{have_bits, with_drain}
 use Rattle.commit_writes.specs.InFlight.{ArePartOf, ServesLive, TestsLive}
 use Rattle.commit_writes.specs.Segments.{IsAtRest}
 use Rattle.commit_writes.specs.Serving.{AreServing, AreTranslated}
@@ -36,13 +37,15 @@ use Rattle.batch_order.specs.declared.Placement.{Placement}
 use Rattle.batch_order.specs.declared.held.Held.{Held}
 use Rattle.batch_order.specs.declared.translation.Translation.{Translation}
 use Rattle.batch_order.specs.Entries.{Entries}
-use Rattle.batch_order.specs.Kept.{IsManaged, bits_of, current_of, held_of, held_writes, mode_of, settled_state, state_of, tables_of}
-use Rattle.batch_order.specs.Steps.{ServesNow}
-use Rattle.batch_order.specs.Turning.{IsCurrentRight, IsHeldRight}
+use Rattle.batch_order.specs.Kept.{IsManaged, bits_of, course_of, current_of, held_of, held_writes, mode_of, settled_state, state_of, tables_of, undo_left, way_of}
+use Rattle.batch_order.specs.Steps.{ServesNow, is_back}
+use Rattle.batch_order.specs.Turning.{IsCurrentRight, IsHeldRight, has_drain, has_word}
 use Rattle.batch_order.specs.Planning.{all_writes}
 use Rattle.batch_order.proofs.served.Answered.{idle_writes}
 use Rattle.batch_order.proofs.under_way.Carried.{held_size, view_of}
-use Rattle.batch_order.proofs.under_way.Drains.{has_drain_is}
+use Rattle.batch_order.proofs.under_way.Drains.{has_drain_is, no_word_left}
+use Rattle.batch_order.proofs.under_way.Left.{current_before, words_over}
+use Rattle.batch_order.proofs.under_way.Ways.{forward_way, written_alone}
 use Rattle.batch_order.proofs.planning.Translated.{bits_same, serving_of, settled_is}
 
 abbrev same_part : (bits : FieldBits) → ArePartOf bits bits
@@ -134,9 +137,30 @@ module _ (translation : Option Translation) (rules : StoredRules) (kept : Entrie
     meanwhile = subst (ArePartOf bits) (sym during_is) (live_meanwhile mode bits rules.rules held.batch begun start);
     left = left_part (set_after rules.rules held.batch) (during_of held.bits);
     least = least held.drained;
-    drained = λ forward none. drained held.drained refl forward (has_drain_is held.awaits _ none);
+    words = words;
+    drained = λ forward none. let on = forward_way held.turned undo forward in drained held.drained refl on (has_drain_is held.awaits (drop held.made writes) (on_way has_drain on ∙ none));
+    undrained = back held.turned;
   }
     where
+      undo : List Write
+      undo = undo_left translation slots kept.entries held
+
+      -- what is asked of the actions on the way on
+      on_way : (of : List Action → Bool) → held.turned ≡ None → of (with_drain held.awaits (drop held.made writes)) ≡ of (course_of held.turned held.awaits (drop held.made writes) undo)
+      on_way of on = sym (ap (λ (t : Option ℕ). of (course_of t held.awaits (drop held.made writes) undo)) on)
+
+      words : is_back (way_of held.turned undo) ≡ false → has_word (course_of held.turned held.awaits (drop held.made writes) undo) ≡ true → current_of translation held ≡ bits_of translation
+      words forward some = elim (cases_lt held.made held.counts.words) [
+        | inl below ↦ current_before translation rules kept slots held managed below
+        | inr past ↦
+            let none : has_word (with_drain held.awaits (drop held.made writes)) ≡ false = no_word_left held.awaits (drop held.made writes) (words_over translation rules kept slots held managed held.made past) in
+            absurd (let clash : false ≡ true = sym none ∙ (on_way has_word (forward_way held.turned undo forward) ∙ some) in cc)
+      ]
+
+      back : (t : Option ℕ) → is_back (way_of t undo) ≡ true → has_drain (course_of t held.awaits (drop held.made writes) undo) ≡ false
+      back None is = absurd (let clash : false ≡ true = is in cc)
+      back (Some undone) is = written_alone undo
+
       meanwhile : ArePartOf bits (during_of held.bits)
       meanwhile = subst (ArePartOf bits) (sym during_is) (live_meanwhile mode bits rules.rules held.batch begun start)
 

@@ -30,10 +30,11 @@ use Rattle.batch_order.specs.declared.held.Held.{Held}
 use Rattle.batch_order.specs.declared.translation.Translation.{Translation}
 use Rattle.batch_order.specs.declared.Placement.{Placement}
 use Rattle.batch_order.specs.Entries.{Entries, KeepEntries}
-use Rattle.batch_order.specs.Kept.{IsManaged, IsArranged, bits_after, bits_of, changed_by, held_of, held_writes, mode_of, settled_state, state_of, tables_of, translation_after}
+use Rattle.batch_order.specs.Kept.{IsManaged, IsArranged, bits_after, bits_of, changed_by, held_of, held_writes, mode_of, settled_state, state_of, tables_of, translation_after, undo_left, way_of}
 use Rattle.batch_order.specs.Planning.{as_write, all_writes}
-use Rattle.batch_order.specs.Managed.{Managed, IsOn, fresh}
-use Rattle.batch_order.specs.Steps.{StepsOn}
+use Rattle.batch_order.specs.Managed.{HeldCommit, IsOn, Managed, Way, fresh}
+use Rattle.batch_order.specs.Managed.Way.{On}
+use Rattle.batch_order.specs.Steps.{StepsOn, end_answer, left_by}
 use Rattle.batch_order.proofs.under_way.Drains.{all_made}
 use Rattle.batch_order.proofs.arranged.Entered.{contents_kept}
 use Rattle.batch_order.proofs.planning.Translated.{bits_kept, mode_kept}
@@ -111,9 +112,9 @@ module _ (translation translation' : Option Translation) (rules rules' : StoredR
   }
 
   -- the state stays where the last write was made, and is that of the entries as they are arranged then
-  pub finish_steps : (placement : Placement) (words : ℕ) → with_drain held.awaits (drop held.made (held_writes kept.entries held)) ≡ []
+  pub finish_steps : (placement : Placement) (words : ℕ) → held.turned ≡ None → with_drain held.awaits (drop held.made (held_writes kept.entries held)) ≡ []
       → StepsOn (view_of placement translation rules kept slots (Some held)) (held_of translation slots rules.rules kept.entries held) words (with_drain held.awaits (drop held.made (held_writes kept.entries held))) (Finished held.counts) (view_of placement translation' rules' kept' held.arrangement None)
-  finish_steps placement words over =
+  finish_steps placement words forward over =
       let none : drop held.made (held_writes kept.entries held) ≡ [] = (all_made held.awaits (drop held.made (held_writes kept.entries held)) over).1 in
       let carried = managed.carried in
       let size : length held.arrangement ≡ length slots = carried.after.settled.size ∙ sym carried.size in
@@ -122,11 +123,15 @@ module _ (translation translation' : Option Translation) (rules rules' : StoredR
       (contents_kept kept'.live (rewritten_entries kept.entries held.rewrites.items) kept'.entries held.arrangement finished.entries
       (settled_live kept' held.arrangement (finished_arranged (mode_of translation) (bits_after rules.rules held) (set_after rules.rules held.batch) kept kept' held finished carried.after).settled))
       ∙ (sym carried.leads ∙ ap (state_after (settled_state translation kept.entries slots)) (sym (took_all (held_writes kept.entries held) held.made none))) in
+      let old : Managed = view_of placement translation rules kept slots (Some held) in
+      let one : HeldCommit = held_of translation slots rules.rules kept.entries held in
+      let goes : one.way ≡ On (undo_left translation slots kept.entries held) = ap (λ (t : Option ℕ). way_of t (undo_left translation slots kept.entries held)) forward in
       subst (λ (left : List Action). StepsOn (view_of placement translation rules kept slots (Some held)) (held_of translation slots rules.rules kept.entries held) words left (Finished held.counts) (view_of placement translation' rules' kept' held.arrangement None)) (sym over) (
-        refl,
+        sym (ap (λ (w : Way). end_answer w held.counts) goes),
         ap₂ (λ (n : ℕ) (m : Mode). now n m (bits_of translation') rules'.rules (settled_state translation' kept'.entries held.arrangement)) size mode_is
             ∙ (ap₂ (λ (b : FieldBits) (r : List Rule). now (length slots) (mode_of translation) b r (settled_state translation' kept'.entries held.arrangement)) bits_is is
-            ∙ ap (now (length slots) (mode_of translation) (bits_after rules.rules held) (set_after rules.rules held.batch)) state),
+            ∙ (ap (now (length slots) (mode_of translation) (bits_after rules.rules held) (set_after rules.rules held.batch)) state
+            ∙ sym (ap (left_by old one) goes))),
       )
     where
       now : ℕ → Mode → FieldBits → List Rule → State → Managed

@@ -14,7 +14,7 @@ use Rattle.commit_writes.proofs.WritesIn.{writes_of_commit}
 use Rattle.commit_writes.proofs.SlotWrites.{AreToSlots, no_table}
 use Rattle.commit_writes.proofs.TableWrites.{AreToTables}
 use Rattle.batch_order.specs.Steps.{due_write, is_drain_next}
-use Rattle.batch_order.specs.Turning.{has_drain}
+use Rattle.batch_order.specs.Turning.{has_drain, has_word}
 
 pub count_table : (write : Write) (writes : List Write) → is_table_write write ≡ true → table_writes (write ∷ writes) ≡ suc (table_writes writes)
 count_table write writes is =
@@ -79,7 +79,7 @@ due_first true left write (OneTable one more is word) due =
       word = λ still. ap is_table_write (sym same) ∙ word;
     }
 
-not_drained : (writes : List Write) → is_drain_next (map Written writes) ≡ false
+pub not_drained : (writes : List Write) → is_drain_next (map Written writes) ≡ false
 not_drained [] = refl
 not_drained (write ∷ writes) = refl
 
@@ -106,6 +106,30 @@ has_drain_is true left none = let clash : true ≡ false = sym (found (take (tab
     found : (before : List Write) → has_drain (map Written before ++ Drained ∷ map Written (drop (table_writes left) left)) ≡ true
     found [] = refl
     found (write ∷ before) = found before
+
+-- with no word left none is among the actions
+no_word : (writes : List Write) → table_writes writes ≡ 0 → has_word (map Written writes) ≡ false
+no_word [] none = refl
+no_word (write ∷ writes) none = go (is_table_write write) refl (λ fewer. no_word writes fewer)
+  where
+    counted : table_writes (write ∷ writes) ≡ cond (is_table_write write) 1 0 + table_writes writes
+    counted = sum_by-cons (λ w. cond (is_table_write w) 1 0) write writes
+
+    go : (b : Bool) → is_table_write write ≡ b → (table_writes writes ≡ 0 → has_word (map Written writes) ≡ false) → has_word (map Written (write ∷ writes)) ≡ false
+    go true is behind = absurd (let more : table_writes (write ∷ writes) ≡ suc (table_writes writes) = count_table write writes is in omega arith)
+    go false is behind =
+        let same : table_writes (write ∷ writes) ≡ 0 + table_writes writes = counted ∙ ap (λ b. cond b 1 0 + table_writes writes) is in
+        let rest : table_writes writes ≡ 0 = omega arith in
+        ap (λ b. elim b [ true ↦ true | false ↦ has_word (map Written writes) ]) is ∙ behind rest
+
+pub no_word_left : (awaits : Bool) (left : List Write) → table_writes left ≡ 0 → has_word (with_drain awaits left) ≡ false
+no_word_left false left none = no_word left none
+no_word_left true left none = ap has_word (drained_next left none) ∙ no_word left none
+
+-- the first undo write is the next one
+pub due_map : (undo : List Write) → due_write (map Written undo) ≡ slice_get undo 0
+due_map [] = refl
+due_map (write ∷ undo) = refl
 
 -- a drain next is one to come
 pub drain_next_is : (awaits : Bool) (left : List Write) → AreTablesFirst left → is_drain_next (with_drain awaits left) ≡ true → (awaits ≡ true) × (table_writes left ≡ 0)

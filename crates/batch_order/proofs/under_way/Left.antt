@@ -1,6 +1,6 @@
 -- What is left of a commit under way, and what its steps do.
 use Rattle.std.proofs.Common.{◌≡◌, ℕ, suc, ◌+◌, ◌-◌, ◌<◌, ◌≤◌, Bool, true, false, List, [], ◌∷◌, length, take, drop, map, slice_get, inl, inr, ◌⊎◌, Option, Some, None, refl, sym, ap, ap₂, subst, ◌∙◌, arith}
-use Rattle.std.specs.Prelude.{IsSome, is_some}
+use Rattle.std.specs.Prelude.{IsSome}
 use Rattle.std.proofs.lemmas.List.Sums.{fold-append}
 use Rattle.std.proofs.lemmas.Option.{get_or_from_slice_get, slice_get_within}
 use Rattle.slot_pool.specs.Arrangement.{Slots}
@@ -13,7 +13,7 @@ use Rattle.tcam_device.specs.declared.Action.TheVariants.{Written, Drained}
 use Rattle.tcam_device.specs.State.{State, apply, state_after}
 use Rattle.tcam_device.specs.Insertion.{is_table_write, table_writes}
 use Rattle.commit_writes.specs.Actions.{have_bits, with_drain}
-use Rattle.commit_writes.specs.Bits.{new_bits}
+use Rattle.commit_writes.specs.Bits.{FieldBits, new_bits}
 use Rattle.commit_writes.specs.Undo.{restoring, undo_writes}
 use Rattle.commit_writes.proofs.Actions.{undo-append}
 use Rattle.commit_writes.specs.Changes.{during_of}
@@ -23,79 +23,54 @@ use Rattle.batch_order.specs.declared.Step.TheVariants as step
 use Rattle.batch_order.specs.declared.held.Held.{Held}
 use Rattle.batch_order.specs.declared.translation.Translation.{Translation}
 use Rattle.batch_order.specs.Entries.{Entries}
-use Rattle.batch_order.specs.Kept.{AreWordsFirst, IsManaged, bits_of, bits_after, current_of, drains_at, held_of, held_writes, mode_of, most_made, settled_state, state_of}
-use Rattle.batch_order.specs.Managed.{HeldCommit, Managed, actions_due}
-use Rattle.batch_order.specs.Steps.{IsAllMade, Steps, StepsEither, StepsOn, awaits_drain, due_write, is_drain_next, next_of}
+use Rattle.batch_order.specs.Kept.{AreWordsFirst, IsManaged, bits_of, bits_after, course_of, current_of, drains_at, held_of, held_writes, mode_of, settled_state, state_of, undo_left, way_of}
+use Rattle.batch_order.specs.Managed.{HeldCommit, Managed, Way}
+use Rattle.batch_order.specs.Steps.{IsAllMade, Steps, StepsOn, awaits_drain, current_by, due_write, is_drain_next, next_of, way_by}
 use Rattle.batch_order.specs.Planning.{all_writes}
 use Rattle.batch_order.proofs.under_way.Carried.{view_of, drop-read, get-drop, held_size}
-use Rattle.batch_order.proofs.under_way.Drains.{AreTablesFirst, IsDue, count_table, drain_next_is, drained_next, drains_when, drop_tables, due_first, due_is, kind_at, tables_first}
+use Rattle.batch_order.proofs.under_way.Drains.{AreTablesFirst, IsDue, count_table, drain_next_is, drained_next, drains_when, drop_tables, due_first, due_is, kind_at, not_drained, tables_first}
 use Rattle.batch_order.proofs.under_way.OnWay.{managed_at}
+use Rattle.batch_order.proofs.under_way.Ways.{way_more}
 
 -- with no action left, none is left to make
 pub none_left : (held : Option HeldCommit) → next_of held ≡ None → awaits_drain held ≡ false → IsAllMade held
 none_left None next drain = tt
-none_left (Some held) next drain = go held.turned refl next drain
+none_left (Some held) next drain = go held.actions next drain
   where
-    forward : (actions : List Action) → due_write actions ≡ None → is_drain_next actions ≡ false → actions ≡ []
-    forward [] due none = refl
-    forward (Written write ∷ actions) due none = absurd (cc)
-    forward (Drained ∷ actions) due none = absurd (cc)
+    go : (actions : List Action) → due_write actions ≡ None → is_drain_next actions ≡ false → actions ≡ []
+    go [] due none = refl
+    go (Written write ∷ actions) due none = absurd (cc)
+    go (Drained ∷ actions) due none = absurd (cc)
 
-    back : (undo : List Write) → slice_get undo 0 ≡ None → map Written undo ≡ []
-    back [] due = refl
-    back (write ∷ undo) due = absurd (cc)
-
-    due_of : Option ℕ → Option Write
-    due_of turned = elim turned [ None ↦ due_write held.actions | Some undone ↦ slice_get held.undo 0 ]
-
-    next_is : Option ℕ → Bool
-    next_is turned = elim turned [ None ↦ is_drain_next held.actions | Some undone ↦ false ]
-
-    go : (turned : Option ℕ) → held.turned ≡ turned → due_of turned ≡ None
-        → next_is turned ≡ false → actions_due held ≡ []
-    go None is due none = ap (λ t. elim t [ None ↦ held.actions | Some undone ↦ map Written held.undo ]) is ∙ forward held.actions due none
-    go (Some undone) is due none = ap (λ t. elim t [ None ↦ held.actions | Some undone ↦ map Written held.undo ]) is ∙ back held.undo due
-
--- what a step does of a commit that isn't turned round
-pub steps_forward : (old : Managed) (one : HeldCommit) (words : ℕ) (actions : List Action) (made : Step) (new : Managed) → one.turned ≡ None → one.actions ≡ actions
+-- what a step does of a commit with these actions
+pub steps_as : (old : Managed) (one : HeldCommit) (words : ℕ) (actions : List Action) (made : Step) (new : Managed) → one.actions ≡ actions
     → StepsOn old one words actions made new → Steps old words (Some one) made new
-steps_forward old one words actions made new forward is did =
-    subst (λ (t : Option ℕ). StepsEither old one words t made new) (sym forward) (subst (λ (a : List Action). StepsOn old one words a made new) (sym is) did)
+steps_as old one words actions made new is did = subst (λ (a : List Action). StepsOn old one words a made new) (sym is) did
 
--- its actions
+-- the actions of a commit that isn't turned round
 pub forward_actions : (translation : Option Translation) (rules : StoredRules) (kept : Entries) (slots : Slots) (held : Held) → held.turned ≡ None
     → (held_of translation slots rules.rules kept.entries held).actions ≡ with_drain held.awaits (drop held.made (held_writes kept.entries held))
 forward_actions translation rules kept slots held forward =
-    ap (λ (t : Option ℕ). with_drain held.awaits (drop (elim t [ None ↦ held.made | Some undone ↦ undone ]) (held_writes kept.entries held))) forward
+    ap (λ (t : Option ℕ). course_of t held.awaits (drop held.made (held_writes kept.entries held)) (undo_left translation slots kept.entries held)) forward
 
--- what is next of a commit that isn't turned round
+-- what is next of it
 pub forward_next : (translation : Option Translation) (rules : StoredRules) (kept : Entries) (slots : Slots) (held : Held) → held.turned ≡ None
     → next_of (Some (held_of translation slots rules.rules kept.entries held)) ≡ due_write (with_drain held.awaits (drop held.made (held_writes kept.entries held)))
-forward_next translation rules kept slots held forward =
-    ap (λ (t : Option ℕ). elim t [
-      | None ↦ due_write (with_drain held.awaits (drop (most_made held) (held_writes kept.entries held)))
-      | Some undone ↦ slice_get (undo_writes (settled_state translation kept.entries slots) (take held.made (held_writes kept.entries held))) 0
-    ]) forward ∙ ap due_write (forward_actions translation rules kept slots held forward)
-
--- and what is due of it
-pub forward_due : (translation : Option Translation) (rules : StoredRules) (kept : Entries) (slots : Slots) (held : Held) → held.turned ≡ None
-    → actions_due (held_of translation slots rules.rules kept.entries held) ≡ with_drain held.awaits (drop held.made (held_writes kept.entries held))
-forward_due translation rules kept slots held forward =
-    ap (λ (t : Option ℕ). elim t [
-      | None ↦ with_drain held.awaits (drop (most_made held) (held_writes kept.entries held))
-      | Some undone ↦ map Written (undo_writes (settled_state translation kept.entries slots) (take held.made (held_writes kept.entries held)))
-    ]) forward ∙ forward_actions translation rules kept slots held forward
+forward_next translation rules kept slots held forward = ap due_write (forward_actions translation rules kept slots held forward)
 
 -- where the drain is next it isn't turned round
 pub drain_forward : (translation : Option Translation) (rules : StoredRules) (kept : Entries) (slots : Slots) (held : Held) → awaits_drain (Some (held_of translation slots rules.rules kept.entries held)) ≡ true
     → (held.turned ≡ None) × (is_drain_next (with_drain held.awaits (drop held.made (held_writes kept.entries held))) ≡ true)
 drain_forward translation rules kept slots held next = go held.turned refl next
   where
+    undo : List Write
+    undo = undo_left translation slots kept.entries held
+
     go : (t : Option ℕ) → held.turned ≡ t
-        → (elim t [ None ↦ is_drain_next (with_drain held.awaits (drop (most_made held) (held_writes kept.entries held))) | Some undone ↦ false ]) ≡ true
+        → is_drain_next (course_of t held.awaits (drop held.made (held_writes kept.entries held)) undo) ≡ true
         → (held.turned ≡ None) × (is_drain_next (with_drain held.awaits (drop held.made (held_writes kept.entries held))) ≡ true)
-    go None is next = (is, ap is_drain_next (sym (forward_actions translation rules kept slots held is)) ∙ next)
-    go (Some undone) is next = absurd (let clash : false ≡ true = next in cc)
+    go None is next = (is, next)
+    go (Some undone) is next = absurd (let clash : false ≡ true = sym (not_drained undo) ∙ next in cc)
 
 module _ (translation : Option Translation) (rules : StoredRules) (kept : Entries) (slots : Slots) (held : Held) (managed : IsManaged translation rules kept slots (Some held)) where
   abbrev writes : List Write
@@ -127,14 +102,33 @@ module _ (translation : Option Translation) (rules : StoredRules) (kept : Entrie
         | inr is ↦ inr (is.0, omega arith)
       ]
 
+  -- behind the words none is left
+  pub words_over : (n : ℕ) → held.counts.words ≤ n → table_writes (drop n (held_writes kept.entries held)) ≡ 0
+  words_over n past = go (left_first n)
+    where
+      go : AreTablesFirst (drop n writes) → table_writes (drop n writes) ≡ 0
+      go (AreTablesFirst.NoTable none) = none
+      go (AreTablesFirst.OneTable write more is word) =
+          let at : slice_get writes n ≡ Some write = sym (get-drop writes n) ∙ ap (λ ws. slice_get ws 0) is in
+          elim (word_at n write at) [
+            | inl some ↦ absurd (let below : n < held.counts.words = some.1 in omega arith)
+            | inr other ↦ absurd (let clash : true ≡ false = sym word ∙ other.0 in cc)
+          ]
+
+  -- and before the last one the drain wasn't made
+  pub current_before : held.made < held.counts.words → current_of translation held ≡ bits_of translation
+  current_before below = go held.drained refl
+    where
+      go : (b : Bool) → held.drained ≡ b → (elim b [ true ↦ during_of held.bits | false ↦ bits_of translation ]) ≡ bits_of translation
+      go true is = absurd (let past = managed.carried.late is in omega arith)
+      go false is = refl
+
   -- the drain is next where the manager finds it so
   pub drains_is : is_drain_next (with_drain held.awaits (drop held.made (held_writes kept.entries held))) ≡ drains_at held.awaits held.made held.counts
   drains_is = drains_when held.awaits (drop held.made writes) (left_first held.made) held.made held.counts.words (λ still. left_words held.made (managed.carried.early still)) managed.carried.early
 
   pub forward_drains : held.turned ≡ None → awaits_drain (Some (held_of translation slots rules.rules kept.entries held)) ≡ drains_at held.awaits held.made held.counts
-  forward_drains is =
-      ap (λ (t : Option ℕ). elim t [ None ↦ is_drain_next (with_drain held.awaits (drop (most_made held) (held_writes kept.entries held))) | Some undone ↦ false ]) is
-      ∙ ap is_drain_next (forward_actions translation rules kept slots held is) ∙ drains_is
+  forward_drains is = ap is_drain_next (forward_actions translation rules kept slots held is) ∙ drains_is
 
   -- and else the next write is the one behind those that were made
   pub due_read : drains_at held.awaits held.made held.counts ≡ false → due_write (with_drain held.awaits (drop held.made (held_writes kept.entries held))) ≡ slice_get (held_writes kept.entries held) held.made
@@ -184,12 +178,18 @@ module _ (translation : Option Translation) (rules : StoredRules) (kept : Entrie
     state_made =
         ap (state_after begun) (take-read writes held.made write read) ∙ fold-append apply begun (take held.made writes) (write ∷ [])
 
+    -- a word of a table finds current what was live before
+    current_made : current_of translation held ≡ current_by (bits_of translation) (current_of translation held) (is_table_write write)
+    current_made = elim (word_at held.made write read) [
+      | inl is ↦ current_before is.1 ∙ ap (current_by (bits_of translation) (current_of translation held)) (sym is.0)
+      | inr is ↦ ap (current_by (bits_of translation) (current_of translation held)) (sym is.0)
+    ]
+
     -- the first of the writes that are left was made
     pub advance_steps : (placement : Placement) (words : ℕ) → held.turned ≡ None
         → StepsOn (view_of placement translation rules kept slots (Some held)) (held_of translation slots rules.rules kept.entries held) words (with_drain held.awaits (drop held.made (held_writes kept.entries held))) (step.Wrote write)
         (view_of placement translation rules kept slots (Some (record held { made = held.made + 1 })))
     advance_steps placement words forward =
-        let most : most_made (record held { made = held.made + 1 }) ≡ held.made + 1 = ap (λ (t : Option ℕ). elim t [ None ↦ held.made + 1 | Some undone ↦ undone ]) forward in
         let before : State = state_of translation kept.entries slots (Some held) in
         let behind : drop held.made writes ≡ write ∷ drop (held.made + 1) writes =
         drop-read writes held.made write inside (sym (get_or_from_slice_get writes held.made write write read)) in
@@ -199,15 +199,19 @@ module _ (translation : Option Translation) (rules : StoredRules) (kept : Entrie
         due.actions_are ∙ ap (λ ws. Written write ∷ with_drain held.awaits ws) more in
         let undo : undo_writes begun (take (held.made + 1) writes) ≡ restoring before write ∷ undo_writes begun (take held.made writes) =
         ap (undo_writes begun) (take-read writes held.made write read) ∙ undo-append begun (take held.made writes) (write ∷ []) in
+        let left : course_of held.turned held.awaits (drop (held.made + 1) writes) (undo_writes begun (take (held.made + 1) writes)) ≡ with_drain held.awaits (drop (held.made + 1) writes) =
+        ap (λ (t : Option ℕ). course_of t held.awaits (drop (held.made + 1) writes) (undo_writes begun (take (held.made + 1) writes))) forward in
+        let way : way_of held.turned (undo_writes begun (take (held.made + 1) writes)) ≡ way_by before write (way_of held.turned (undo_writes begun (take held.made writes))) =
+        ap (way_of held.turned) undo ∙ way_more held.turned before write (undo_writes begun (take held.made writes)) in
         subst (λ (left : List Action). StepsOn (view_of placement translation rules kept slots (Some held)) (held_of translation slots rules.rules kept.entries held) words left (step.Wrote write)
         (view_of placement translation rules kept slots (Some (record held { made = held.made + 1 })))) (sym actions) (
           refl,
-          ap (λ n. next_view placement (drop n writes) (state_of translation kept.entries slots (Some (record held { made = held.made + 1 }))) (undo_writes begun (take (held.made + 1) writes))) most
-              ∙ ap₂ (next_view placement (drop (held.made + 1) writes)) state_made undo,
+          ap₂ (λ (a : List Action) (s : State). next_view placement a s (way_of held.turned (undo_writes begun (take (held.made + 1) writes))) (current_of translation held)) left state_made
+              ∙ ap₂ (next_view placement (with_drain held.awaits (drop (held.made + 1) writes)) (apply before write)) way current_made,
         )
       where
-        next_view : Placement → List Write → State → List Write → Managed
-        next_view placement left s u = record {
+        next_view : Placement → List Action → State → Way → FieldBits → Managed
+        next_view placement left s w current = record {
           slots = length slots;
           mode = mode_of translation;
           placement = placement;
@@ -216,14 +220,13 @@ module _ (translation : Option Translation) (rules : StoredRules) (kept : Entrie
           state = s;
           held = Some (record {
             prepared = held.prepared;
-            actions = with_drain held.awaits left;
-            undo = u;
-            turned = held.turned;
+            actions = left;
+            way = w;
             counts = held.counts;
             rules = set_after rules.rules held.batch;
             during = during_of held.bits;
             bits = bits_after rules.rules held;
-            current = current_of translation held;
+            current = current;
           });
         }
 
@@ -259,11 +262,11 @@ module _ (translation : Option Translation) (rules : StoredRules) (kept : Entrie
         → StepsOn (view_of placement translation rules kept slots (Some held)) (held_of translation slots rules.rules kept.entries held) 0 (with_drain held.awaits (drop held.made (held_writes kept.entries held))) step.Drained
         (view_of placement translation rules kept slots (Some (record held { awaits = false; drained = true })))
     drain_steps placement forward =
-        let most : most_made held ≡ held.made = ap (λ (t : Option ℕ). elim t [ None ↦ held.made | Some undone ↦ undone ]) forward in
         subst (λ (left : List Action). StepsOn (view_of placement translation rules kept slots (Some held)) (held_of translation slots rules.rules kept.entries held) 0 left step.Drained
-        (view_of placement translation rules kept slots (Some (record held { awaits = false; drained = true })))) (sym actions_are) (refl, ap (λ n. drained_view placement (drop n writes)) most)
+        (view_of placement translation rules kept slots (Some (record held { awaits = false; drained = true })))) (sym actions_are)
+        (refl, ap (λ (t : Option ℕ). drained_view placement (course_of t false (drop held.made writes) (undo_writes begun (take held.made writes)))) forward)
       where
-        drained_view : Placement → List Write → Managed
+        drained_view : Placement → List Action → Managed
         drained_view placement left = record {
           slots = length slots;
           mode = mode_of translation;
@@ -273,9 +276,8 @@ module _ (translation : Option Translation) (rules : StoredRules) (kept : Entrie
           state = state_of translation kept.entries slots (Some held);
           held = Some (record {
             prepared = held.prepared;
-            actions = map Written left;
-            undo = undo_writes begun (take held.made writes);
-            turned = held.turned;
+            actions = left;
+            way = way_of held.turned (undo_writes begun (take held.made writes));
             counts = held.counts;
             rules = set_after rules.rules held.batch;
             during = during_of held.bits;
@@ -284,11 +286,7 @@ module _ (translation : Option Translation) (rules : StoredRules) (kept : Entrie
           });
         }
 
--- one that isn't turned round
-pub forward_of : (turned : Option ℕ) → is_some turned ≡ false → turned ≡ None
-forward_of None is = refl
-forward_of (Some undone) is = absurd (let clash : true ≡ false = is in cc)
-
+-- with the next write made
 pub made_after : (translation : Option Translation) (rules : StoredRules) (kept : Entries) (slots : Slots) (held : Held) → IsManaged translation rules kept slots (Some held) → (placement : Placement)
     → IsSome (next_of (view_of placement translation rules kept slots (Some held)).held) → held.turned ≡ None → IsManaged translation rules kept slots (Some (record held { made = held.made + 1 }))
 made_after translation rules kept slots held managed placement next forward = go (next_of (view_of placement translation rules kept slots (Some held)).held) refl next
@@ -302,8 +300,8 @@ pub made_steps : (translation : Option Translation) (rules : StoredRules) (kept 
     → Steps (view_of placement translation rules kept slots (Some held)) words (view_of placement translation rules kept slots (Some held)).held (step.Wrote write) (view_of placement translation rules kept slots (Some (record held { made = held.made + 1 })))
 made_steps translation rules kept slots held managed placement words write next forward =
     let due = sym (forward_next translation rules kept slots held forward) ∙ next in
-    steps_forward (view_of placement translation rules kept slots (Some held)) (held_of translation slots rules.rules kept.entries held) words (with_drain held.awaits (drop held.made (held_writes kept.entries held))) (step.Wrote write)
-    (view_of placement translation rules kept slots (Some (record held { made = held.made + 1 }))) forward (forward_actions translation rules kept slots held forward)
+    steps_as (view_of placement translation rules kept slots (Some held)) (held_of translation slots rules.rules kept.entries held) words (with_drain held.awaits (drop held.made (held_writes kept.entries held))) (step.Wrote write)
+    (view_of placement translation rules kept slots (Some (record held { made = held.made + 1 }))) (forward_actions translation rules kept slots held forward)
     (advance_steps translation rules kept slots held managed write due placement words forward)
 
 -- the drain was made
@@ -312,6 +310,6 @@ pub drained_steps : (translation : Option Translation) (rules : StoredRules) (ke
     → Steps (view_of placement translation rules kept slots (Some held)) 0 (view_of placement translation rules kept slots (Some held)).held step.Drained (view_of placement translation rules kept slots (Some (record held { awaits = false; drained = true })))
 drained_steps translation rules kept slots held managed placement next =
     let on = drain_forward translation rules kept slots held next in
-    steps_forward (view_of placement translation rules kept slots (Some held)) (held_of translation slots rules.rules kept.entries held) 0 (with_drain held.awaits (drop held.made (held_writes kept.entries held))) step.Drained
-    (view_of placement translation rules kept slots (Some (record held { awaits = false; drained = true }))) on.0 (forward_actions translation rules kept slots held on.0)
+    steps_as (view_of placement translation rules kept slots (Some held)) (held_of translation slots rules.rules kept.entries held) 0 (with_drain held.awaits (drop held.made (held_writes kept.entries held))) step.Drained
+    (view_of placement translation rules kept slots (Some (record held { awaits = false; drained = true }))) (forward_actions translation rules kept slots held on.0)
     (drain_steps translation rules kept slots held managed on.1 placement on.0)

@@ -1,45 +1,36 @@
 -- How far a commit has come while it is carried out, forward or back.
-use Rattle.std.proofs.Common.{◌≡◌, ℕ, ◌+◌, List, [], ◌∷◌, ◌++◌, map, drop, Some, None, Option, refl, sym, ap, ap₂, subst, ◌∙◌, append-nil, append_assoc}
+use Rattle.std.proofs.Common.{◌≡◌, ℕ, false, List, [], ◌∷◌, ◌++◌, drop, Some, None, Option, refl, sym, ap, ap₂, subst, ◌∙◌, append-nil, append_assoc}
+use Rattle.std.specs.Prelude.{is_some}
 use Rattle.std.proofs.lemmas.List.Sums.{fold-append}
+use Rattle.rule_model.specs.declared.Rule.{Rule}
 use Rattle.tcam_device.specs.declared.Write.{Write}
 use Rattle.tcam_device.specs.declared.Action.{Action}
 use Rattle.tcam_device.specs.declared.Action.TheVariants.{Written, Drained}
 use Rattle.tcam_device.specs.State.{State, apply, state_after}
 use Rattle.tcam_device.specs.Flight.{writes_in}
 use Rattle.tcam_device.specs.Insertion.{is_table_write}
-use Rattle.commit_writes.specs.Undo.{restoring}
-use Rattle.commit_writes.proofs.WritesIn.{writes_of_map, writes_in-append}
+use Rattle.commit_writes.proofs.WritesIn.{writes_in-append}
+use Rattle.commit_writes.specs.Bits.{FieldBits}
+use Rattle.commit_writes.specs.declared.Done.{Done}
 use Rattle.batch_order.specs.declared.Step.{Step}
 use Rattle.batch_order.specs.declared.Step.TheVariants as step
-use Rattle.batch_order.specs.Managed.{Managed, HeldCommit, actions_due}
-use Rattle.batch_order.specs.Steps.{Steps, actions_of, current_back}
-use Rattle.batch_order.specs.CarriedOut.{Reverts, acted, acted_by, actions_left, ahead, ahead_of, back_by, forward_by}
-use Rattle.batch_order.proofs.under_way.Stepped.{HasStepped, stepped, written_on, drained_on, written_back}
-
--- what is left, forward and back
-pub due_on : (held : HeldCommit) → held.turned ≡ None → actions_due held ≡ held.actions
-due_on held turned = ap (λ (t : Option ℕ). elim t [ None ↦ held.actions | Some undone ↦ map Written held.undo ]) turned
-
-pub due_back : (held : HeldCommit) (undone : ℕ) → held.turned ≡ Some undone → actions_due held ≡ map Written held.undo
-due_back held undone turned = ap (λ (t : Option ℕ). elim t [ None ↦ held.actions | Some undone ↦ map Written held.undo ]) turned
+use Rattle.batch_order.specs.Managed.{Managed, HeldCommit}
+use Rattle.batch_order.specs.Managed.Way.{Back}
+use Rattle.batch_order.specs.Steps.{Steps, actions_of, current_by, is_back, left_by, way_by}
+use Rattle.batch_order.specs.CarriedOut.{GoesForward, Reverts, acted, acted_by, acted_on, actions_left, ahead, ahead_of, done_of, finished, finished_of}
+use Rattle.batch_order.proofs.under_way.Stepped.{HasStepped, drained_on, left_held, no_actions, not_idle, stepped, written_on}
+use Rattle.batch_order.proofs.under_way.Ways.{back_undone, ended_forward, ends_forward, ends_turned, same_undone, undone_back, undone_by}
 
 -- an action as the manager makes it
-pub acted_forward : (now : Managed) (one : HeldCommit) (action : Action) → now.held ≡ Some one → one.turned ≡ None → acted_by now action ≡ forward_by now one action
-acted_forward now one action under turned =
-    ap (λ (h : Option HeldCommit). elim h [ None ↦ now | Some held ↦ elim held.turned [ None ↦ forward_by now held action | Some undone ↦ back_by now held action ] ]) under
-    ∙ ap (λ (t : Option ℕ). elim t [ None ↦ forward_by now one action | Some undone ↦ back_by now one action ]) turned
-
-pub acted_back : (now : Managed) (one : HeldCommit) (undone : ℕ) (action : Action) → now.held ≡ Some one → one.turned ≡ Some undone → acted_by now action ≡ back_by now one action
-acted_back now one undone action under turned =
-    ap (λ (h : Option HeldCommit). elim h [ None ↦ now | Some held ↦ elim held.turned [ None ↦ forward_by now held action | Some undone ↦ back_by now held action ] ]) under
-    ∙ ap (λ (t : Option ℕ). elim t [ None ↦ forward_by now one action | Some undone ↦ back_by now one action ]) turned
+pub acted_one : (now : Managed) (one : HeldCommit) (action : Action) → now.held ≡ Some one → acted_by now action ≡ acted_on now one action
+acted_one now one action under = ap (λ (h : Option HeldCommit). elim h [ None ↦ now | Some held ↦ acted_on now held action ]) under
 
 -- some first part of a commit's actions was made
 pub record IsPart (old : Managed) (held : HeldCommit) (made : List Action) (now : Managed) : Type 0 where
   pub one : HeldCommit
   pub under_way : now.held ≡ Some one
-  pub parts : made ++ actions_due one ≡ actions_due held
-  pub turned : one.turned ≡ held.turned
+  pub parts : made ++ one.actions ≡ held.actions
+  pub turned : undone_by one.way ≡ undone_by held.way
   pub counts : one.counts ≡ held.counts
   pub rules : one.rules ≡ held.rules
   pub bits : one.bits ≡ held.bits
@@ -69,8 +60,8 @@ start manager (Some held) is = record {
 record HasActed (now : Managed) (one : HeldCommit) (action : Action) (new : Managed) : Type 0 where
   next : HeldCommit
   new_is : new ≡ record now { state = state_after now.state (writes_in (action ∷ [])); held = Some next }
-  due : actions_due one ≡ action ∷ actions_due next
-  turned : next.turned ≡ one.turned
+  due : one.actions ≡ action ∷ next.actions
+  turned : undone_by next.way ≡ undone_by one.way
   counts : next.counts ≡ one.counts
   rules : next.rules ≡ one.rules
   bits : next.bits ≡ one.bits
@@ -78,54 +69,37 @@ record HasActed (now : Managed) (one : HeldCommit) (action : Action) (new : Mana
 
 has_acted : (now : Managed) (words : ℕ) (one : HeldCommit) (made : Step) (new : Managed) (action : Action) → now.held ≡ Some one → actions_of made ≡ action ∷ []
     → HasStepped now words one made new → HasActed now one action new
-has_acted now words one made new action under acts (HasStepped.End turned actions did is) = absurd (let clash : [] ≡ action ∷ [] = ap actions_of (sym did) ∙ acts in cc)
-has_acted now words one made new action under acts (HasStepped.On write actions turned rest did is) =
+has_acted now words one made new action under acts (HasStepped.End actions did is) =
+    absurd (let clash : [] ≡ action ∷ [] = sym (ap actions_of did ∙ no_actions one.way one) ∙ acts in cc)
+has_acted now words one made new action under acts (HasStepped.Wrote write actions rest did is) =
     let read : Written write ∷ [] ≡ action ∷ [] = ap actions_of (sym did) ∙ acts in
     let same : Written write ≡ action = cc in
-    let next : HeldCommit = record one { actions = actions; undo = restoring now.state write ∷ one.undo } in
-    let shape : actions_due one ≡ Written write ∷ actions_due next = due_on one turned ∙ rest ∙ ap (λ xs. Written write ∷ xs) (sym (due_on next turned)) in
+    let next : HeldCommit = record one { actions = actions; way = way_by now.state write one.way; current = current_by now.bits one.current (is_table_write write) } in
     subst (λ a. HasActed now one a new) same (record {
       next = next;
       new_is = is;
-      due = shape;
-      turned = refl;
+      due = rest;
+      turned = same_undone now.state write one.way;
       counts = refl;
       rules = refl;
       bits = refl;
-      acted_is = is ∙ ap (λ xs. written_on now one write (drop 1 xs)) (sym rest) ∙ sym (acted_forward now one (Written write) under turned);
+      acted_is = is ∙ ap (λ xs. written_on now one write (drop 1 xs)) (sym rest) ∙ sym (acted_one now one (Written write) under);
     })
-has_acted now words one made new action under acts (HasStepped.Drain actions turned rest did is) =
+has_acted now words one made new action under acts (HasStepped.Drain actions rest did is) =
     let read : Drained ∷ [] ≡ action ∷ [] = ap actions_of (sym did) ∙ acts in
     let same : Drained ≡ action = cc in
     let next : HeldCommit = record one { actions = actions; current = one.during } in
-    let shape : actions_due one ≡ Drained ∷ actions_due next = due_on one turned ∙ rest ∙ ap (λ xs. Drained ∷ xs) (sym (due_on next turned)) in
     subst (λ a. HasActed now one a new) same (record {
       next = next;
       new_is = is;
-      due = shape;
+      due = rest;
       turned = refl;
       counts = refl;
       rules = refl;
       bits = refl;
-      acted_is = is ∙ ap (λ xs. drained_on now one (drop 1 xs)) (sym rest) ∙ sym (acted_forward now one Drained under turned);
+      acted_is = is ∙ ap (λ xs. drained_on now one (drop 1 xs)) (sym rest) ∙ sym (acted_one now one Drained under);
     })
-has_acted now words one made new action under acts (HasStepped.Wait actions more turned rest flying did is) = absurd (let clash : [] ≡ action ∷ [] = ap actions_of (sym did) ∙ acts in cc)
-has_acted now words one made new action under acts (HasStepped.Back undone write undo turned rest did is) =
-    let read : Written write ∷ [] ≡ action ∷ [] = ap actions_of (sym did) ∙ acts in
-    let same : Written write ≡ action = cc in
-    let next : HeldCommit = record one { undo = undo; current = current_back now.bits one.current (is_table_write write) } in
-    let shape : actions_due one ≡ Written write ∷ actions_due next = due_back one undone turned ∙ ap (map Written) rest ∙ ap (λ xs. Written write ∷ xs) (sym (due_back next undone turned)) in
-    subst (λ a. HasActed now one a new) same (record {
-      next = next;
-      new_is = is;
-      due = shape;
-      turned = refl;
-      counts = refl;
-      rules = refl;
-      bits = refl;
-      acted_is = is ∙ ap (λ xs. written_back now one write (drop 1 xs)) (sym rest) ∙ sym (acted_back now one undone (Written write) under turned);
-    })
-has_acted now words one made new action under acts (HasStepped.Revert undone turned rest did is) = absurd (let clash : [] ≡ action ∷ [] = ap actions_of (sym did) ∙ acts in cc)
+has_acted now words one made new action under acts (HasStepped.Wait actions more rest flying did is) = absurd (let clash : [] ≡ action ∷ [] = ap actions_of (sym did) ∙ acts in cc)
 
 -- a step of the commit that is under way
 pub over : (now new : Managed) (words : ℕ) (one : HeldCommit) (made : Step) → now.held ≡ Some one → Steps now words now.held made new → HasStepped now words one made new
@@ -145,7 +119,7 @@ acts_on old now new words (Some held) made did action is was acts steps =
     record {
       one = more.next;
       under_way = ap (λ (m : Managed). m.held) more.new_is;
-      parts = append_assoc made (action ∷ []) (actions_due more.next) ∙ (ap (λ xs. made ++ xs) (sym more.due) ∙ was.parts);
+      parts = append_assoc made (action ∷ []) more.next.actions ∙ (ap (λ xs. made ++ xs) (sym more.due) ∙ was.parts);
       turned = more.turned ∙ was.turned;
       counts = more.counts ∙ was.counts;
       rules = more.rules ∙ was.rules;
@@ -171,27 +145,75 @@ reverted old now new words undone None made before after is was steps journal =
 reverted old now new words undone (Some held) made before after is was steps journal = go (over now new words was.one (step.Reverted undone) was.under_way steps)
   where
     go : HasStepped now words was.one (step.Reverted undone) new → HasReverted old new made before after undone
-    go (HasStepped.End turned actions did new_is) = absurd (let clash = did in cc)
-    go (HasStepped.On write actions turned rest did new_is) = absurd (let clash = did in cc)
-    go (HasStepped.Drain actions turned rest did new_is) = absurd (let clash = did in cc)
-    go (HasStepped.Wait actions more turned rest flying did new_is) = absurd (let clash = did in cc)
-    go (HasStepped.Back count write undo turned rest did new_is) = absurd (let clash = did in cc)
-    go (HasStepped.Revert count turned rest did new_is) =
-        let way : held.turned ≡ Some count = sym was.turned ∙ turned in
-        let all : made ≡ actions_due held = sym (append-nil made) ∙ ap (λ xs. made ++ xs) (sym (due_back was.one count turned ∙ ap (map Written) rest)) ∙ was.parts in
-        let writes : writes_in made ≡ held.undo = ap writes_in (all ∙ due_back held count way) ∙ writes_of_map held.undo in
-        let same : undone ≡ count = cc in
+    go (HasStepped.End rest did new_is) =
+        let goes : was.one.way ≡ Back undone = ends_turned was.one.way was.one.counts undone did in
+        let way : held.way ≡ Back undone = undone_back held.way undone (sym was.turned ∙ ap undone_by goes) in
+        let all : made ≡ held.actions = sym (append-nil made) ∙ ap (λ xs. made ++ xs) (sym rest) ∙ was.parts in
         record {
           reverts = record {
             held = held;
             under_way = is;
-            turned = way ∙ ap (λ n. Some n) (sym same);
-            new_is = new_is ∙ ap (λ (m : Managed). record m { held = None }) was.now_is ∙ ap (λ (ws : List Write). record old { state = state_after old.state ws; held = None }) writes;
-            journal = journal ∙ ap (λ ws. before ++ ws) writes;
+            turned = way;
+            new_is = new_is ∙ ap (left_by now was.one) goes ∙ ap (λ (m : Managed). record m { held = None }) was.now_is
+                ∙ ap (λ (xs : List Action). record old { state = state_after old.state (writes_in xs); held = None }) all;
+            journal = journal ∙ ap (λ xs. before ++ writes_in xs) all;
           };
           all = all ∙ ap actions_left (sym is);
-          idle = ap (λ (m : Managed). m.held) new_is;
+          idle = ap (λ (m : Managed). m.held) new_is ∙ left_held now was.one was.one.way;
         }
+    go (HasStepped.Wrote write actions rest did new_is) = absurd (let clash = did in cc)
+    go (HasStepped.Drain actions rest did new_is) = absurd (let clash = did in cc)
+    go (HasStepped.Wait actions more rest flying did new_is) = absurd (let clash = did in cc)
+
+-- where it has come to its end forward, or none was under way
+pub record HasEnded (old new : Managed) (counts : Done) : Type 0 where
+  pub done : counts ≡ done_of old.held
+  pub forward : GoesForward old.held
+  pub finished : new ≡ finished old
+
+pub has_finished : (old now new : Managed) (words : ℕ) (counts : Done) (held : Option HeldCommit) (made : List Action) → old.held ≡ held → Onward old held made now
+    → Steps now words now.held (step.Finished counts) new → HasEnded old new counts
+has_finished old now new words counts None made is was steps =
+    let none : now.held ≡ None = ap (λ (m : Managed). m.held) was.1 ∙ is in
+    let idle : Steps now words None (step.Finished counts) new = subst (λ (h : Option HeldCommit). Steps now words h (step.Finished counts) new) none steps in
+    absurd (let clash = idle.0 in cc)
+has_finished old now new words counts (Some held) made is was steps = go (over now new words was.one (step.Finished counts) was.under_way steps)
+  where
+    go : HasStepped now words was.one (step.Finished counts) new → HasEnded old new counts
+    go (HasStepped.End rest did new_is) =
+        let ends = ends_forward was.one.way was.one.counts counts did in
+        let way : is_back held.way ≡ false = back_undone held.way ∙ ap is_some (sym was.turned) ∙ sym (back_undone was.one.way) ∙ ends.0 in
+        let all : made ≡ held.actions = sym (append-nil made) ∙ ap (λ xs. made ++ xs) (sym rest) ∙ was.parts in
+        let left = ended_forward now was.one was.one.way ends.0 in
+        record {
+          done = ends.1 ∙ was.counts ∙ ap done_of (sym is);
+          forward = subst GoesForward (sym is) way;
+          finished = new_is ∙ left.1 ∙ ap (λ (m : Managed). record m { rules = was.one.rules; bits = was.one.bits; held = None }) was.now_is
+              ∙ ap₂ (λ (r : List Rule) (b : FieldBits). record old { rules = r; bits = b; state = state_after old.state (writes_in made); held = None }) was.rules was.bits
+              ∙ ap (λ (xs : List Action). record old { rules = held.rules; bits = held.bits; state = state_after old.state (writes_in xs); held = None }) all
+              ∙ ap (λ (h : Option HeldCommit). finished_of h old) (sym is);
+        }
+    go (HasStepped.Wrote write actions rest did new_is) = absurd (let clash = did in cc)
+    go (HasStepped.Drain actions rest did new_is) = absurd (let clash = did in cc)
+    go (HasStepped.Wait actions more rest flying did new_is) = absurd (let clash = did in cc)
+
+pub has_idled : (old now new : Managed) (words : ℕ) (held : Option HeldCommit) (made : List Action) → old.held ≡ held → Onward old held made now
+    → Steps now words now.held step.Idle new → HasEnded old new (record { writes = 0; words = 0; most = 0; span = 0 })
+has_idled old now new words None made is was steps =
+    let none : now.held ≡ None = ap (λ (m : Managed). m.held) was.1 ∙ is in
+    let idle : Steps now words None step.Idle new = subst (λ (h : Option HeldCommit). Steps now words h step.Idle new) none steps in
+    record {
+      done = ap done_of (sym is);
+      forward = subst GoesForward (sym is) tt;
+      finished = idle.1 ∙ was.1 ∙ ap (λ (h : Option HeldCommit). record old { held = h }) is ∙ ap (λ (h : Option HeldCommit). finished_of h old) (sym is);
+    }
+has_idled old now new words (Some held) made is was steps = go (over now new words was.one step.Idle was.under_way steps)
+  where
+    go : HasStepped now words was.one step.Idle new → HasEnded old new (record { writes = 0; words = 0; most = 0; span = 0 })
+    go (HasStepped.End rest did new_is) = absurd (not_idle was.one.way was.one did)
+    go (HasStepped.Wrote write actions rest did new_is) = absurd (let clash = did in cc)
+    go (HasStepped.Drain actions rest did new_is) = absurd (let clash = did in cc)
+    go (HasStepped.Wait actions more rest flying did new_is) = absurd (let clash = did in cc)
 
 -- what is carried on keeps the rules, those ahead and the slots
 pub record IsSame (old now : Managed) : Type 0 where
@@ -218,14 +240,11 @@ made_and_left old now (Some held) made is was =
 -- a step that does nothing to the device leaves as much to do
 still_due : (now new : Managed) (words : ℕ) (one : HeldCommit) (did : Step) → now.held ≡ Some one → actions_of did ≡ [] → HasStepped now words one did new
     → actions_left new.held ≡ actions_left now.held
-still_due now new words one did under acts (HasStepped.End turned actions made is) =
-    ap (λ (m : Managed). actions_left m.held) is ∙ sym (ap actions_left under ∙ due_on one turned ∙ actions)
-still_due now new words one did under acts (HasStepped.On write actions turned rest made is) = absurd (let clash : Written write ∷ [] ≡ [] = ap actions_of (sym made) ∙ acts in cc)
-still_due now new words one did under acts (HasStepped.Drain actions turned rest made is) = absurd (let clash : Drained ∷ [] ≡ [] = ap actions_of (sym made) ∙ acts in cc)
-still_due now new words one did under acts (HasStepped.Wait actions more turned rest flying made is) = ap (λ (m : Managed). actions_left m.held) is
-still_due now new words one did under acts (HasStepped.Back undone write undo turned rest made is) = absurd (let clash : Written write ∷ [] ≡ [] = ap actions_of (sym made) ∙ acts in cc)
-still_due now new words one did under acts (HasStepped.Revert undone turned rest made is) =
-    ap (λ (m : Managed). actions_left m.held) is ∙ sym (ap actions_left under ∙ due_back one undone turned ∙ ap (map Written) rest)
+still_due now new words one did under acts (HasStepped.End actions made is) =
+    ap (λ (m : Managed). actions_left m.held) is ∙ ap actions_left (left_held now one one.way) ∙ sym (ap actions_left under ∙ actions)
+still_due now new words one did under acts (HasStepped.Wrote write actions rest made is) = absurd (let clash : Written write ∷ [] ≡ [] = ap actions_of (sym made) ∙ acts in cc)
+still_due now new words one did under acts (HasStepped.Drain actions rest made is) = absurd (let clash : Drained ∷ [] ≡ [] = ap actions_of (sym made) ∙ acts in cc)
+still_due now new words one did under acts (HasStepped.Wait actions more rest flying made is) = ap (λ (m : Managed). actions_left m.held) is
 
 pub still_left : (now new : Managed) (words : ℕ) (did : Step) (held : Option HeldCommit) → now.held ≡ held → actions_of did ≡ [] → Steps now words held did new
     → actions_left new.held ≡ actions_left now.held

@@ -1,5 +1,5 @@
 -- What a loop keeps that makes the writes of a commit and tries each of them so many times.
-use Rattle.std.proofs.Common.{◌≡◌, ℕ, zero, suc, ◌+◌, ◌*◌, ◌-◌, ◌^◌, ◌≤◌, ◌<◌, min, true, false, List, [], ◌∷◌, ◌++◌, length, Option, Some, None, IsSome, refl, sym, ap, ap₂, subst, ◌∙◌, append-nil, append_assoc, arith}
+use Rattle.std.proofs.Common.{◌≡◌, ℕ, zero, suc, ◌+◌, ◌*◌, ◌-◌, ◌^◌, ◌≤◌, ◌<◌, min, true, List, [], ◌∷◌, ◌++◌, length, Option, Some, None, IsSome, refl, sym, ap, ap₂, subst, ◌∙◌, append-nil, append_assoc, arith}
 use Rattle.std.proofs.Math.Nat.{min-le_left, suc-mul}
 use Rattle.std.proofs.lemmas.List.{length-append}
 use Rattle.tcam_device.specs.declared.Write.{Write}
@@ -11,12 +11,12 @@ use Rattle.commit_writes.proofs.WritesIn.{writes_in-append}
 use Rattle.batch_order.specs.declared.Step.{Step}
 use Rattle.batch_order.specs.declared.Step.TheVariants as step
 use Rattle.batch_order.specs.declared.Unfinished.TheVariants as unfinished
-use Rattle.batch_order.specs.Managed.{Managed, HeldCommit, actions_due}
+use Rattle.batch_order.specs.Managed.{Managed, HeldCommit}
 use Rattle.batch_order.specs.Steps.{Steps, actions_of, awaits_drain, is_drain_next, next_of}
 use Rattle.batch_order.specs.CarriedOut.{HasCarried, IsTried, StopsAt, StopsBy, actions_left, writes_left}
 use Rattle.batch_order.proofs.Made.{journal_made, made_more, nothing_made, untouched}
 use Rattle.batch_order.proofs.under_way.Onward.{IsPart, Onward, acts_on, made_and_left, over, start, still_left}
-use Rattle.batch_order.proofs.under_way.Stepped.{HasStepped, none_due}
+use Rattle.batch_order.proofs.under_way.Stepped.{HasStepped, none_due, not_waiting}
 
 -- a count of failures: those of the next write, and fewer than the tries of each that was made
 pub record IsCount (tries made failures before now : ℕ) : Type 0 where
@@ -173,7 +173,7 @@ stands_at old now new held made before after left is was same count told = recor
   held = held;
   under_way = is;
   made = made;
-  rest = actions_due was.one;
+  rest = was.one.actions;
   parts = was.parts;
   rest_is = ap (λ (m : Managed). actions_left m.held) same ∙ ap actions_left was.under_way;
   left_is = count;
@@ -193,18 +193,14 @@ waited old now new flying words None made before after left is was steps count t
 waited old now new flying words (Some held) made before after left is was steps count told = go (over now new flying was.one (step.Waiting words) was.under_way steps)
   where
     go : HasStepped now flying was.one (step.Waiting words) new → StopsBy old new before after flying (unfinished.Waiting words left)
-    go (HasStepped.End turned actions did new_is) = absurd (let clash = did in cc)
-    go (HasStepped.On write actions turned rest did new_is) = absurd (let clash = did in cc)
-    go (HasStepped.Drain actions turned rest did new_is) = absurd (let clash = did in cc)
-    go (HasStepped.Wait actions more turned rest some did new_is) =
+    go (HasStepped.End rest did new_is) = absurd (not_waiting was.one.way was.one words did)
+    go (HasStepped.Wrote write actions rest did new_is) = absurd (let clash = did in cc)
+    go (HasStepped.Drain actions rest did new_is) = absurd (let clash = did in cc)
+    go (HasStepped.Wait actions more rest some did new_is) =
         let many : words ≡ suc more = cc in
-        let next : awaits_drain (Some was.one) ≡ is_drain_next was.one.actions =
-        ap (λ (t : Option ℕ). elim t [ None ↦ is_drain_next was.one.actions | Some undone ↦ false ]) turned in
-        let waits : awaits_drain new.held ≡ true = ap (λ (m : Managed). awaits_drain m.held) new_is ∙ ap awaits_drain was.under_way ∙ next ∙ ap is_drain_next rest in (
+        let waits : awaits_drain new.held ≡ true = ap (λ (m : Managed). awaits_drain m.held) new_is ∙ ap awaits_drain was.under_way ∙ ap is_drain_next rest in (
           stands_at old now new held made before after left is was new_is count told,
           waits,
           many ∙ sym some,
           (let flies = some in omega arith),
         )
-    go (HasStepped.Back count write undo turned rest did new_is) = absurd (let clash = did in cc)
-    go (HasStepped.Revert count turned rest did new_is) = absurd (let clash = did in cc)

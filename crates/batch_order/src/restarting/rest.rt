@@ -6,6 +6,7 @@ ghost use Rattle.rule_store.specs.Verdict.{entries_of};
 ghost use Rattle.rule_model.specs.Entry.{IsEncodable};
 ghost use Rattle.placement.specs.Live.{is_live};
 ghost use Rattle.commit_writes.specs.PlannedBatch.{IsIdOf, IsRewriteOf};
+ghost use Rattle.batch_order.specs.Arranged.{arranged_at};
 ghost use Rattle.batch_order.specs.Entries.{AddsIds, HaveIds};
 ghost use Rattle.batch_order.specs.Placing.{aims_from};
 ghost use Rattle.batch_order.specs.Planning.{AreAllPlanned, ArePlannedSince, IsPlannable, all_writes};
@@ -100,7 +101,7 @@ pub(crate) fn plan_rest<D: Writable>(
     requires few { length parts.now.rewrites.items ≤ MOST_SLOTS }
     requires rewritten { AllByRecursion (λ rewrite. IsTrue (is_live live.old.live rewrite.id)) parts.now.rewrites.items }
     requires erased { AllByRecursion (λ id. IsTrue (is_live live.old.live id)) parts.now.erased.items }
-    ensures planned { OnOk result (AreAllPlanned live.old live.new arrangement.old arrangement.new plan.old plan.new parts.now.inserted.items
+    ensures planned { OnOk result (AreAllPlanned (arranged_at live.old arrangement.old) (arranged_at live.new arrangement.new) plan.old plan.new parts.now.inserted.items
         (aims_from placement mode (length arrangement.old) rules.now.rules (length live.old.live + length parts.now.inserted.items) made parts.now.inserted.items)
         parts.now.rewrites.items parts.now.erased.items) }
     ensures adds { IfOk result (λ ids. AddsIds live.old live.new ids.items) }

@@ -7,10 +7,12 @@ ghost use Rattle.rule_store.specs.Verdict.{Accepted, verdict};
 ghost use Rattle.rule_model.specs.Entry.{IsEncodable};
 ghost use Rattle.tcam_device.specs.State.{IsState};
 ghost use Rattle.tcam_device.specs.View.{IsSameButSpare, device_state};
+ghost use Rattle.commit_writes.specs.Proposal.{proposal};
 ghost use Rattle.readback.specs.Found.{IsShown};
 ghost use Rattle.readback.specs.Laws.{CanCommit};
 ghost use Rattle.readback.specs.Stage.{Finds};
 ghost use Rattle.readback.specs.Tasks.{commit_pieces, known_pieces};
+ghost use Rattle.batch_order.specs.Arranged.{arranged_at};
 ghost use Rattle.batch_order.specs.CarriedOut.{HasRoomBothWays, HasRoomLeft};
 ghost use Rattle.batch_order.specs.Kept.{IsManaged, bits_of, mode_of, tables_of};
 ghost use Rattle.batch_order.specs.Planning.{all_writes};
@@ -184,8 +186,8 @@ fn plan_all<D: ReadBack>(
     requires mode { mode_of translation.now ≡ mode }
     requires tables { tables_of translation.now ≡ record (device_state (D.view device.old)) { slots = [] } }
     requires read { IsReadAgain mode (bits_of translation.now) rules.now.rules batch.now (device_state (D.view device.old)) shown.now standing.old.live standing.old.arrangement }
-    ensures planned { IfOk result (IsPlannedOn placement (D.view device.old).slots mode (bits_of translation.now) rules.now.rules batch.now
-        (device_state (D.view device.old)) shown.now standing.old.live standing.new.live standing.old.arrangement standing.new.arrangement) }
+    ensures planned { IfOk result (IsPlannedOn placement (D.view device.old).slots (proposal mode (bits_of translation.now) rules.now.rules batch.now)
+        (device_state (D.view device.old)) shown.now (arranged_at standing.old.live standing.old.arrangement) (arranged_at standing.new.live standing.new.arrangement)) }
     ensures enough { IfOk result (λ rest. 2 * length (all_writes rest.plan.writes) + 1 ≤ (D.view device.new).spare) }
     ensures least { (D.view device.old).spare ≤ (D.view device.new).spare }
     ensures others { IsSameButSpare (D.view device.old) (D.view device.new) }

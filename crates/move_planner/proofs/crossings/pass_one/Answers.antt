@@ -1,6 +1,7 @@
 use Rattle.std.proofs.Common.{ℕ, Bool, Option, None, Some, sym, ◌≡◌, ◌⊎◌, refl, subst}
 use Rattle.placement.specs.Live.{is_above}
 use Rattle.slot_pool.specs.Arrangement.{Slots}
+use Rattle.move_planner.specs.Made.{moves_made}
 use Rattle.move_planner.specs.declared.chains.Chain.{Chain}
 use Rattle.move_planner.specs.declared.sides.Sides.{Sides}
 use Rattle.move_planner.specs.declared.crossings.Cut.{Cut}
@@ -27,7 +28,7 @@ turn-requires c =
 
 pub returns-clause-passed : goal.returns-clause-passed
 returns-clause-passed c = λ id behind before w.
-    subst (OnePassed c.args.index.now id behind before c.args.slots.now c.turn.new.slots c.args.plan.now c.turn.new.plan c.args.sides.now c.args.cut) (sym c.cleared.ensures)
+    subst (OnePassed c.args.index.now id behind before (moves_made c.args.slots.now c.args.plan.now) (moves_made c.turn.new.slots c.turn.new.plan) c.args.sides.now c.args.cut) (sym c.cleared.ensures)
     (passer_passed c.args.index.now id behind before c.args.slots.now c.args.sides.now c.args.cut w c.turn.new.slots c.args.plan.now c.turn.new.plan c.in-Some.chain c.first.result
     (passes (is_above c.args.index.now.live) behind before c.args.slots.now c.args.sides.now c.args.cut c.in_ok-chain.field-0 c.in-Some.chain c.in-Some.is (c.in_ok-chain.ensures id behind before w))
     c.first.ensures c.in_ok-turn.ensures.turned)

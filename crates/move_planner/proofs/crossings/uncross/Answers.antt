@@ -2,6 +2,7 @@ use Rattle.std.proofs.Common.{◌≡◌, ℕ, Bool, List, Option, None, Some, ar
 use Rattle.placement.specs.Live.{LivePieces, is_above}
 use Rattle.slot_pool.specs.Arrangement.{Slots}
 use Rattle.placement.specs.declared.Move.{Move}
+use Rattle.move_planner.specs.Made.{moves_made}
 use Rattle.move_planner.specs.declared.sides.Sides.{Sides}
 use Rattle.move_planner.specs.declared.crossings.Cut.{Cut}
 use Rattle.move_planner.specs.Steps.{MayPass, OnePassed, NonePasses, AreFoundSides}
@@ -42,8 +43,8 @@ loop-sides-preserved c =
     let b = is_behind (is_above c.args.index.now.live) c.args.slots.now c.args.id in
     let f = is_before (is_above c.args.index.now.live) c.args.slots.now c.args.id in
     let m = c.in_ok-next.ensures.passed c.args.id b f c.loop-sides.invariant.turns.underway in
-    let one : OnePassed c.args.index.now c.args.id b f c.loop-sides.slots c.pass_one.new.slots c.loop-sides.plan c.pass_one.new.plan c.in_ok-sides.sides c.loop-sides.cut c.in-Some.next =
-    subst (MayPass c.args.index.now c.args.id b f c.loop-sides.slots c.pass_one.new.slots c.loop-sides.plan c.pass_one.new.plan c.in_ok-sides.sides c.loop-sides.cut) c.in-Some.is m in
+    let one : OnePassed c.args.index.now c.args.id b f (moves_made c.loop-sides.slots c.loop-sides.plan) (moves_made c.pass_one.new.slots c.pass_one.new.plan) c.in_ok-sides.sides c.loop-sides.cut c.in-Some.next =
+    subst (MayPass c.args.index.now c.args.id b f (moves_made c.loop-sides.slots c.loop-sides.plan) (moves_made c.pass_one.new.slots c.pass_one.new.plan) c.in_ok-sides.sides c.loop-sides.cut) c.in-Some.is m in
     record {
       begun = c.loop-sides.invariant.begun;
       best = c.loop-sides.invariant.best;
@@ -53,7 +54,7 @@ loop-sides-preserved c =
 
 -- none passed
 none_passed : (index : LivePieces) (id : ℕ) (b f : ℕ → Bool) (slots slots' : Slots) (plan plan' : List Move) (sides : Sides) (cut : Cut) (found : Option Cut) → ((next : Cut) → found ≡ Some next → ⊥)
-    → MayPass index id b f slots slots' plan plan' sides cut found → NonePasses b f slots slots' plan plan' cut
+    → MayPass index id b f (moves_made slots plan) (moves_made slots' plan') sides cut found → NonePasses b f (moves_made slots plan) (moves_made slots' plan') cut
 none_passed index id b f slots slots' plan plan' sides cut None none w = w
 none_passed index id b f slots slots' plan plan' sides cut (Some next) none w = absurd (none next refl)
 

@@ -3,7 +3,7 @@ use Rattle.tcam_device.specs.Flight.{writes_in}
 use Rattle.batch_order.specs.Managed.{Managed}
 use Rattle.batch_order.proofs.served.Ahead.{by_journal}
 use Rattle.tcam_c.specs.Driven.{due_of, kind_of_due}
-use Rattle.tcam_c.proofs.Ways.{due_settles, has_due, keeps_back}
+use Rattle.tcam_c.proofs.Ways.{due_settles, has_due}
 use Rattle.tcam_c.proofs.steps.settle.Goals as goal
 
 pub returns-in_default : goal.returns-in_default
@@ -12,7 +12,7 @@ returns-in_default c =
     let some : ¬ (due_of m.held ≡ None) = λ is. c.in_default.not-Nothing (c.kind_due.ensures ∙ ap kind_of_due is) in
     record {
       settled = sym (due_settles m.held m some);
-      back = keeps_back m m (λ begun way. way);
+      back = λ begun way. way;
       keeps = record { src = λ bit range is. is; dst = λ bit range is. is };
       events = refl;
       driven =

@@ -1,4 +1,4 @@
-use Rattle.std.proofs.Common.{◌≡◌, ◌+◌, ◌++◌, [], ◌∷◌, ℕ, List, Option, Some, None, IsSome, length, refl, sym, ap, subst, ◌∙◌, arith}
+use Rattle.std.proofs.Common.{◌≡◌, ◌++◌, [], ◌∷◌, ℕ, List, Option, Some, None, IsSome, length, refl, sym, ap, subst, ◌∙◌, arith}
 use Rattle.std.specs.Prelude.{option_map, unwrap_or}
 use Rattle.rule_model.specs.declared.Rule.{Rule}
 use Rattle.tcam_device.specs.declared.Write.{Write}
@@ -6,16 +6,17 @@ use Rattle.tcam_device.specs.declared.Action.TheVariants.{Written, Drained}
 use Rattle.tcam_device.specs.State.{replay}
 use Rattle.tcam_device.specs.Hitless.{ShowsOldOrNew}
 use Rattle.tcam_device.specs.View.{DeviceView, HasMade, journal}
+use Rattle.tcam_device.specs.Flight.{writes_in}
 use Rattle.batch_order.specs.declared.Step.{Step}
 use Rattle.batch_order.specs.declared.Step.TheVariants as step
 use Rattle.batch_order.specs.declared.Unfinished.TheVariants as unfinished
-use Rattle.batch_order.specs.Managed.{Managed, HeldCommit, writes_due}
+use Rattle.batch_order.specs.Managed.{Managed, HeldCommit}
 use Rattle.batch_order.specs.Steps.{Steps, actions_of, next_of}
 use Rattle.batch_order.specs.CarriedOut.{IsServed, StopsBy, ahead, writes_left}
 use Rattle.batch_order.proofs.Leaving.{leaves_more, same_leaves}
 use Rattle.batch_order.proofs.Made.{journal_made, journal_same}
 use Rattle.batch_order.proofs.served.Ahead.{by_journal}
-use Rattle.batch_order.proofs.under_way.Onward.{IsSame, reverted, same}
+use Rattle.batch_order.proofs.under_way.Onward.{IsSame, has_finished, has_idled, reverted, same}
 use Rattle.batch_order.proofs.served.Served.{at-first, either, more}
 use Rattle.batch_order.proofs.under_way.Stepped.{none_drained, room_after}
 use Rattle.batch_order.proofs.under_way.Tried.{goes-drained, goes-start, goes-wrote, stood, waited}
@@ -105,7 +106,7 @@ carrying-preserved-in-Ok-Drained g c =
     }
 
 -- how many writes are left where a commit is under way
-left-of : (held : Option HeldCommit) → unwrap_or (option_map (λ (one : HeldCommit). length (writes_due one)) held) 0 ≡ length (writes_left held)
+left-of : (held : Option HeldCommit) → unwrap_or (option_map (λ (one : HeldCommit). length (writes_in one.actions)) held) 0 ≡ length (writes_left held)
 left-of None = refl
 left-of (Some held) = refl
 
@@ -123,6 +124,37 @@ returns-in-Ok-Reverted-clause-stopped g c =
     let steps : Steps m flying m.held (step.Reverted undone) m' = subst (λ (s : Step). Steps m flying m.held s m') c.in-Ok-Reverted.field-0-is made.stepped in
     let did : HasMade [] at after = subst (λ (s : Step). HasMade (actions_of s) at after) c.in-Ok-Reverted.field-0-is made.made in
     (reverted c.args.self.now m m' flying undone c.args.self.now.held inv.goes.made (journal begun) (journal after) refl inv.goes.onward steps (journal_same [] at after did refl ∙ inv.goes.journal)).reverts
+
+-- it has come to its end forward, or none was under way
+pub returns-in-Ok-Finished-clause-done : goal.returns-in-Ok-Finished-clause-done
+returns-in-Ok-Finished-clause-done g c =
+    (has_finished c.args.self.now c.carrying.self c.step.new.self (length (g.D.Writable.view c.carrying.device).flight) c.in-Ok-Finished.done c.args.self.now.held c.carrying.invariant.goes.made refl c.carrying.invariant.goes.onward
+    (subst (λ (s : Step). Steps c.carrying.self (length (g.D.Writable.view c.carrying.device).flight) c.carrying.self.held s c.step.new.self) c.in-Ok-Finished.field-0-is c.in-Ok-Finished.ensures.stepped)).done
+
+pub returns-in-Ok-Finished-clause-was_forward : goal.returns-in-Ok-Finished-clause-was_forward
+returns-in-Ok-Finished-clause-was_forward g c =
+    (has_finished c.args.self.now c.carrying.self c.step.new.self (length (g.D.Writable.view c.carrying.device).flight) c.in-Ok-Finished.done c.args.self.now.held c.carrying.invariant.goes.made refl c.carrying.invariant.goes.onward
+    (subst (λ (s : Step). Steps c.carrying.self (length (g.D.Writable.view c.carrying.device).flight) c.carrying.self.held s c.step.new.self) c.in-Ok-Finished.field-0-is c.in-Ok-Finished.ensures.stepped)).forward
+
+pub returns-in-Ok-Finished-clause-finished : goal.returns-in-Ok-Finished-clause-finished
+returns-in-Ok-Finished-clause-finished g c =
+    (has_finished c.args.self.now c.carrying.self c.step.new.self (length (g.D.Writable.view c.carrying.device).flight) c.in-Ok-Finished.done c.args.self.now.held c.carrying.invariant.goes.made refl c.carrying.invariant.goes.onward
+    (subst (λ (s : Step). Steps c.carrying.self (length (g.D.Writable.view c.carrying.device).flight) c.carrying.self.held s c.step.new.self) c.in-Ok-Finished.field-0-is c.in-Ok-Finished.ensures.stepped)).finished
+
+pub returns-in-Ok-Idle-clause-done : goal.returns-in-Ok-Idle-clause-done
+returns-in-Ok-Idle-clause-done g c =
+    (has_idled c.args.self.now c.carrying.self c.step.new.self (length (g.D.Writable.view c.carrying.device).flight) c.args.self.now.held c.carrying.invariant.goes.made refl c.carrying.invariant.goes.onward
+    (subst (λ (s : Step). Steps c.carrying.self (length (g.D.Writable.view c.carrying.device).flight) c.carrying.self.held s c.step.new.self) c.in-Ok-Idle.field-0-is c.in-Ok-Idle.ensures.stepped)).done
+
+pub returns-in-Ok-Idle-clause-was_forward : goal.returns-in-Ok-Idle-clause-was_forward
+returns-in-Ok-Idle-clause-was_forward g c =
+    (has_idled c.args.self.now c.carrying.self c.step.new.self (length (g.D.Writable.view c.carrying.device).flight) c.args.self.now.held c.carrying.invariant.goes.made refl c.carrying.invariant.goes.onward
+    (subst (λ (s : Step). Steps c.carrying.self (length (g.D.Writable.view c.carrying.device).flight) c.carrying.self.held s c.step.new.self) c.in-Ok-Idle.field-0-is c.in-Ok-Idle.ensures.stepped)).forward
+
+pub returns-in-Ok-Idle-clause-finished : goal.returns-in-Ok-Idle-clause-finished
+returns-in-Ok-Idle-clause-finished g c =
+    (has_idled c.args.self.now c.carrying.self c.step.new.self (length (g.D.Writable.view c.carrying.device).flight) c.args.self.now.held c.carrying.invariant.goes.made refl c.carrying.invariant.goes.onward
+    (subst (λ (s : Step). Steps c.carrying.self (length (g.D.Writable.view c.carrying.device).flight) c.carrying.self.held s c.step.new.self) c.in-Ok-Idle.field-0-is c.in-Ok-Idle.ensures.stepped)).finished
 
 pub returns-in-Ok-Finished-clause-carried : goal.returns-in-Ok-Finished-clause-carried
 returns-in-Ok-Finished-clause-carried g c =

@@ -3,11 +3,12 @@ use Rattle.rule_model.specs.declared.Rule.{Rule}
 use Rattle.commit_writes.specs.Actions.{with_drain}
 use Rattle.batch_order.specs.declared.Step.TheVariants.{Finished}
 use Rattle.batch_order.specs.declared.held.Held.{Held}
-use Rattle.batch_order.specs.Kept.{IsManaged, held_of, held_writes, translated_by, translation_after}
+use Rattle.batch_order.specs.Kept.{IsManaged, held_of, held_writes, translated_by, translation_after, undo_left}
 use Rattle.batch_order.specs.Managed.{Managed}
 use Rattle.batch_order.specs.Steps.{IsAllMade, Steps, is_turned}
 use Rattle.batch_order.proofs.under_way.Carried.{view_of, managed_after, finish_steps, IsFinished}
-use Rattle.batch_order.proofs.under_way.Left.{forward_actions, forward_due, forward_of, steps_forward}
+use Rattle.batch_order.proofs.under_way.Left.{forward_actions, steps_as}
+use Rattle.batch_order.proofs.under_way.Ways.{forward_way}
 use Rattle.batch_order.proofs.manager.Manager.complete.Goals as goal
 
 pub apply-requires-clause-sound : goal.apply-requires-clause-sound
@@ -73,13 +74,13 @@ returns-in-Some c words =
     let view : view_of i.placement i.translation i.rules i.live i.arrangement i.held ≡ c.args.self.now = c.self.view_is in
     let requires : IsAllMade (view_of i.placement i.translation i.rules i.live i.arrangement i.held).held = rw (← c.self.view_is) at c.requires.made in
     let straight : is_turned (view_of i.placement i.translation i.rules i.live i.arrangement i.held).held ≡ false = rw (← c.self.view_is) at c.requires.forward in
-    let forward : held.turned ≡ None = forward_of held.turned (subst (λ (h : Option Held). is_turned (view_of i.placement i.translation i.rules i.live i.arrangement h).held ≡ false) was straight) in
+    let forward : held.turned ≡ None = forward_way held.turned (undo_left i.translation i.arrangement i.live.entries held) (subst (λ (h : Option Held). is_turned (view_of i.placement i.translation i.rules i.live i.arrangement h).held ≡ false) was straight) in
     let none : with_drain held.awaits (drop held.made (held_writes i.live.entries held)) ≡ [] =
-    sym (forward_due i.translation i.rules i.live i.arrangement held forward) ∙ subst (λ (h : Option Held). IsAllMade (view_of i.placement i.translation i.rules i.live i.arrangement h).held) was requires in
+    sym (forward_actions i.translation i.rules i.live i.arrangement held forward) ∙ subst (λ (h : Option Held). IsAllMade (view_of i.placement i.translation i.rules i.live i.arrangement h).held) was requires in
     let new = view_of i.placement c.translate.new.translation c.apply.new.self c.forget_each.new.self held.arrangement None in
     let steps : Steps (view_of i.placement i.translation i.rules i.live i.arrangement i.held) words (view_of i.placement i.translation i.rules i.live i.arrangement i.held).held (Finished held.counts) new =
     subst (λ (h : Option Held). Steps (view_of i.placement i.translation i.rules i.live i.arrangement h) words (view_of i.placement i.translation i.rules i.live i.arrangement h).held (Finished held.counts) new) (sym was)
-    (steps_forward (view_of i.placement i.translation i.rules i.live i.arrangement (Some held)) (held_of i.translation i.arrangement i.rules.rules i.live.entries held) words (with_drain held.awaits (drop held.made (held_writes i.live.entries held))) (Finished held.counts) new
-    forward (forward_actions i.translation i.rules i.live i.arrangement held forward)
-    (finish_steps i.translation c.translate.new.translation i.rules c.apply.new.self i.live c.forget_each.new.self i.arrangement held before turned c.apply.ensures.rules finished i.placement words none)) in
+    (steps_as (view_of i.placement i.translation i.rules i.live i.arrangement (Some held)) (held_of i.translation i.arrangement i.rules.rules i.live.entries held) words (with_drain held.awaits (drop held.made (held_writes i.live.entries held))) (Finished held.counts) new
+    (forward_actions i.translation i.rules i.live i.arrangement held forward)
+    (finish_steps i.translation c.translate.new.translation i.rules c.apply.new.self i.live c.forget_each.new.self i.arrangement held before turned c.apply.ensures.rules finished i.placement words forward none)) in
     rw c.take.ensures.after (subst (λ (old : Managed). Steps old words old.held (Finished held.counts) new) view steps)

@@ -1,12 +1,12 @@
-use Rattle.std.proofs.Common.{◌≡◌, ℕ, Bool, false, List, [], ◌∷◌, slice_get, Option, Some, None, sym, ap, ◌∙◌}
-use Rattle.tcam_device.specs.declared.Write.{Write}
+use Rattle.std.proofs.Common.{◌≡◌, ℕ, false, List, [], ◌∷◌, Option, Some, None, sym, ap, ◌∙◌}
 use Rattle.tcam_device.specs.declared.Action.{Action}
 use Rattle.tcam_device.specs.declared.Action.TheVariants.{Written, Drained}
 use Rattle.tcam_device.specs.Flight.{writes_in}
 use Rattle.batch_order.specs.declared.Step.{Step}
 use Rattle.batch_order.specs.Managed.{Managed, HeldCommit}
-use Rattle.batch_order.specs.Steps.{Steps, StepsBack, StepsEither, StepsOn, actions_of, awaits_drain, due_write, is_drain_next, next_of}
+use Rattle.batch_order.specs.Steps.{Steps, StepsOn, actions_of, awaits_drain, due_write, is_drain_next, next_of}
 use Rattle.batch_order.proofs.under_way.Left.{none_left}
+use Rattle.batch_order.proofs.under_way.Stepped.{left_state, no_actions}
 use Rattle.batch_order.proofs.Made.{nothing_made}
 use Rattle.batch_order.proofs.manager.Manager.end.Given.{Over}
 use Rattle.batch_order.proofs.manager.Manager.end.Goals as goal
@@ -19,26 +19,15 @@ pub record MakesNone (old new : Managed) (made : Step) : Type 0 where
 -- where neither a write nor the drain is next, none is made
 ends : (old new : Managed) (words : ℕ) (held : Option HeldCommit) (made : Step) → next_of held ≡ None → awaits_drain held ≡ false → Steps old words held made new → MakesNone old new made
 ends old new words None made next drain steps = record { state = ap (λ (m : Managed). m.state) steps.1; actions = ap actions_of steps.0 }
-ends old new words (Some held) made next drain steps = go held.turned next drain steps
+ends old new words (Some held) made next drain steps = go held.actions next drain steps
   where
-    forward : (actions : List Action) → due_write actions ≡ None → is_drain_next actions ≡ false → StepsOn old held words actions made new → MakesNone old new made
-    forward [] due none did = record { state = ap (λ (m : Managed). m.state) did.1; actions = ap actions_of did.0 }
-    forward (Written write ∷ actions) due none did = absurd (cc)
-    forward (Drained ∷ actions) due none did = absurd (cc)
-
-    back : (undone : ℕ) (undo : List Write) → slice_get undo 0 ≡ None → StepsBack old held undone undo made new → MakesNone old new made
-    back undone [] due did = record { state = ap (λ (m : Managed). m.state) did.1; actions = ap actions_of did.0 }
-    back undone (write ∷ undo) due did = absurd (cc)
-
-    due_of : Option ℕ → Option Write
-    due_of turned = elim turned [ None ↦ due_write held.actions | Some undone ↦ slice_get held.undo 0 ]
-
-    next_is : Option ℕ → Bool
-    next_is turned = elim turned [ None ↦ is_drain_next held.actions | Some undone ↦ false ]
-
-    go : (turned : Option ℕ) → due_of turned ≡ None → next_is turned ≡ false → StepsEither old held words turned made new → MakesNone old new made
-    go None due none did = forward held.actions due none did
-    go (Some undone) due none did = back undone held.undo due did
+    go : (actions : List Action) → due_write actions ≡ None → is_drain_next actions ≡ false → StepsOn old held words actions made new → MakesNone old new made
+    go [] due none did = record {
+      state = ap (λ (m : Managed). m.state) did.1 ∙ left_state old held held.way;
+      actions = ap actions_of did.0 ∙ no_actions held.way held;
+    }
+    go (Written write ∷ actions) due none did = absurd (cc)
+    go (Drained ∷ actions) due none did = absurd (cc)
 
 pub finish-requires : goal.finish-requires
 finish-requires g c =

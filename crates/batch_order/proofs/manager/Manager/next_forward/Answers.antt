@@ -7,14 +7,15 @@ use Rattle.commit_writes.specs.Actions.{with_drain}
 use Rattle.commit_writes.specs.declared.Rewrite.{Rewrite}
 use Rattle.batch_order.specs.declared.held.Held.{Held}
 use Rattle.batch_order.specs.declared.planned_writes.PlannedWrite.{PlannedWrite}
-use Rattle.batch_order.specs.Kept.{IsManaged, drains_at, held_writes}
+use Rattle.batch_order.specs.Kept.{IsManaged, drains_at, held_writes, undo_left}
 use Rattle.batch_order.specs.Managed.{Managed}
 use Rattle.batch_order.specs.Steps.{is_turned, next_of}
 use Rattle.batch_order.specs.Planning.{as_write, all_writes}
 use Rattle.batch_order.proofs.under_way.Carried.{state_size, view_of}
-use Rattle.batch_order.proofs.under_way.Left.{due_read, drains_is, forward_next, forward_of}
+use Rattle.batch_order.proofs.under_way.Left.{due_read, drains_is, forward_next}
 use Rattle.batch_order.proofs.under_way.Drains.{due_none}
 use Rattle.batch_order.proofs.arranged.Walked.{all_at}
+use Rattle.batch_order.proofs.under_way.Ways.{forward_way}
 use Rattle.batch_order.proofs.manager.Manager.next_forward.Goals as goal
 
 pub returns-in-Some-get-clause-size : goal.returns-in-Some-get-clause-size
@@ -42,7 +43,7 @@ returns-in-Some-get-clause-next c =
     let managed : IsManaged i.translation i.rules i.live i.arrangement (Some held) = subst (IsManaged i.translation i.rules i.live i.arrangement) is c.self.invariant in
     let view : view_of i.placement i.translation i.rules i.live i.arrangement i.held ≡ c.args.self.now = c.self.view_is in
     let straight : is_turned (view_of i.placement i.translation i.rules i.live i.arrangement i.held).held ≡ false = rw (← c.self.view_is) at c.requires in
-    let forward : held.turned ≡ None = forward_of held.turned (subst (λ (h : Option Held). is_turned (view_of i.placement i.translation i.rules i.live i.arrangement h).held ≡ false) is straight) in
+    let forward : held.turned ≡ None = forward_way held.turned (undo_left i.translation i.arrangement i.live.entries held) (subst (λ (h : Option Held). is_turned (view_of i.placement i.translation i.rules i.live i.arrangement h).held ≡ false) is straight) in
     let not : drains_at held.awaits held.made held.counts ≡ false = sym c.drains_next.ensures ∙ c.if-drains_next.false in
     let due : Some write ≡ next_of (view_of i.placement i.translation i.rules i.live i.arrangement (Some held)).held =
     sym (forward_next i.translation i.rules i.live i.arrangement held forward ∙ due_read i.translation i.rules i.live i.arrangement held managed not ∙ read_next c) in
@@ -70,7 +71,7 @@ returns-then-drains_next-clause-next c =
     let managed : IsManaged i.translation i.rules i.live i.arrangement (Some held) = subst (IsManaged i.translation i.rules i.live i.arrangement) is c.self.invariant in
     let view : view_of i.placement i.translation i.rules i.live i.arrangement i.held ≡ c.args.self.now = c.self.view_is in
     let straight : is_turned (view_of i.placement i.translation i.rules i.live i.arrangement i.held).held ≡ false = rw (← c.self.view_is) at c.requires in
-    let forward : held.turned ≡ None = forward_of held.turned (subst (λ (h : Option Held). is_turned (view_of i.placement i.translation i.rules i.live i.arrangement h).held ≡ false) is straight) in
+    let forward : held.turned ≡ None = forward_way held.turned (undo_left i.translation i.arrangement i.live.entries held) (subst (λ (h : Option Held). is_turned (view_of i.placement i.translation i.rules i.live i.arrangement h).held ≡ false) is straight) in
     let next : drains_at held.awaits held.made held.counts ≡ true = sym c.drains_next.ensures ∙ c.if-drains_next.true in
     let none : None ≡ next_of (view_of i.placement i.translation i.rules i.live i.arrangement (Some held)).held =
     sym (forward_next i.translation i.rules i.live i.arrangement held forward ∙ due_none (with_drain held.awaits (drop held.made (held_writes i.live.entries held))) (drains_is i.translation i.rules i.live i.arrangement held managed ∙ next)) in
@@ -92,7 +93,7 @@ returns-in-None-get-clause-next c =
     let managed : IsManaged i.translation i.rules i.live i.arrangement (Some held) = subst (IsManaged i.translation i.rules i.live i.arrangement) is c.self.invariant in
     let view : view_of i.placement i.translation i.rules i.live i.arrangement i.held ≡ c.args.self.now = c.self.view_is in
     let straight : is_turned (view_of i.placement i.translation i.rules i.live i.arrangement i.held).held ≡ false = rw (← c.self.view_is) at c.requires in
-    let forward : held.turned ≡ None = forward_of held.turned (subst (λ (h : Option Held). is_turned (view_of i.placement i.translation i.rules i.live i.arrangement h).held ≡ false) is straight) in
+    let forward : held.turned ≡ None = forward_way held.turned (undo_left i.translation i.arrangement i.live.entries held) (subst (λ (h : Option Held). is_turned (view_of i.placement i.translation i.rules i.live i.arrangement h).held ≡ false) is straight) in
     let not : drains_at held.awaits held.made held.counts ≡ false = sym c.drains_next.ensures ∙ c.if-drains_next.false in
     let past : slice_get (held_writes i.live.entries held) held.made ≡ None =
     slice_get-map made (all_writes held.writes) held.made ∙ ap (λ (some : Option PlannedWrite). option_map made some) (sym c.get.ensures ∙ c.in-None-get.is) in

@@ -1,4 +1,4 @@
-use Rattle.std.proofs.Common.{◌≡◌, ◌-◌, true, false, List, Option, Some, length, slice_get, refl, sym, ap, subst, ◌∙◌}
+use Rattle.std.proofs.Common.{◌≡◌, ◌-◌, true, false, List, Option, None, Some, length, slice_get, refl, sym, ap, subst, ◌∙◌}
 use Rattle.std.specs.Prelude.{is_some, nat_lt, option_map}
 use Rattle.std.proofs.lemmas.Option.{slice_get-map, slice_get_read}
 use Rattle.tcam_device.specs.declared.Write.{Write}
@@ -6,12 +6,13 @@ use Rattle.tcam_device.specs.State.{IsInUse}
 use Rattle.commit_writes.specs.declared.Rewrite.{Rewrite}
 use Rattle.batch_order.specs.declared.held.Held.{Held}
 use Rattle.batch_order.specs.declared.planned_writes.PlannedWrite.{PlannedWrite}
-use Rattle.batch_order.specs.Kept.{IsManaged}
+use Rattle.batch_order.specs.Kept.{IsManaged, undo_left}
 use Rattle.batch_order.specs.Managed.{Managed}
 use Rattle.batch_order.specs.Planning.{as_write, as_writes}
 use Rattle.batch_order.specs.Steps.{is_turned, next_of}
-use Rattle.batch_order.proofs.back.Back.{next_back, turned_of, undo_there}
+use Rattle.batch_order.proofs.back.Back.{next_back, none_back, undo_there}
 use Rattle.batch_order.proofs.under_way.Carried.{state_size, view_of}
+use Rattle.batch_order.proofs.under_way.Ways.{back_way}
 use Rattle.batch_order.proofs.manager.Manager.next_undo.Goals as goal
 
 -- the write that is answered is the one that undoes the last that stands
@@ -36,7 +37,7 @@ returns-in-Some-get-clause-next c =
     let managed : IsManaged i.translation i.rules i.live i.arrangement (Some held) = subst (IsManaged i.translation i.rules i.live i.arrangement) is c.self.invariant in
     let view : view_of i.placement i.translation i.rules i.live i.arrangement i.held ≡ c.args.self.now = c.self.view_is in
     let back : is_turned (view_of i.placement i.translation i.rules i.live i.arrangement i.held).held ≡ true = rw (← c.self.view_is) at c.requires in
-    let turned = turned_of held.turned (subst (λ (h : Option Held). is_turned (view_of i.placement i.translation i.rules i.live i.arrangement h).held ≡ true) is back) in
+    let turned = back_way held.turned (undo_left i.translation i.arrangement i.live.entries held) (subst (λ (h : Option Held). is_turned (view_of i.placement i.translation i.rules i.live i.arrangement h).held ≡ true) is back) in
     let due = next_back i.translation i.rules i.live i.arrangement held managed turned.0 turned.1 write c.if-held-eq0.false (read_undo c) in
     subst (λ (m : Managed). Some write ≡ next_of m.held) view
     (subst (λ (h : Option Held). Some write ≡ next_of (view_of i.placement i.translation i.rules i.live i.arrangement h).held) (sym is) (sym due.next))
@@ -49,7 +50,7 @@ returns-in-Some-get-clause-in_use c =
     let is : i.held ≡ Some held = c.in-Some.is in
     let managed : IsManaged i.translation i.rules i.live i.arrangement (Some held) = subst (IsManaged i.translation i.rules i.live i.arrangement) is c.self.invariant in
     let back : is_turned (view_of i.placement i.translation i.rules i.live i.arrangement i.held).held ≡ true = rw (← c.self.view_is) at c.requires in
-    let turned = turned_of held.turned (subst (λ (h : Option Held). is_turned (view_of i.placement i.translation i.rules i.live i.arrangement h).held ≡ true) is back) in
+    let turned = back_way held.turned (undo_left i.translation i.arrangement i.live.entries held) (subst (λ (h : Option Held). is_turned (view_of i.placement i.translation i.rules i.live i.arrangement h).held ≡ true) is back) in
     let due = next_back i.translation i.rules i.live i.arrangement held managed turned.0 turned.1 write c.if-held-eq0.false (read_undo c) in
     subst (λ (m : Managed). IsInUse m.slots write) c.self.view_is due.in_use
 
@@ -65,7 +66,7 @@ returns-in-None-get-clause-next c =
     let is : i.held ≡ Some held = c.in-Some.is in
     let managed : IsManaged i.translation i.rules i.live i.arrangement (Some held) = subst (IsManaged i.translation i.rules i.live i.arrangement) is c.self.invariant in
     let back : is_turned (view_of i.placement i.translation i.rules i.live i.arrangement i.held).held ≡ true = rw (← c.self.view_is) at c.requires in
-    let turned = turned_of held.turned (subst (λ (h : Option Held). is_turned (view_of i.placement i.translation i.rules i.live i.arrangement h).held ≡ true) is back) in
+    let turned = back_way held.turned (undo_left i.translation i.arrangement i.live.entries held) (subst (λ (h : Option Held). is_turned (view_of i.placement i.translation i.rules i.live i.arrangement h).held ≡ true) is back) in
     let past : false ≡ nat_lt (held.made - 1) (length c.deref.result.now) = sym (ap is_some c.in-None-get.is) ∙ c.get.ensures.lookup.0 in
     absurd (undo_there i.translation i.rules i.live i.arrangement held managed turned.0 turned.1 c.if-held-eq0.false (length c.deref.result.now) (ap length c.deref.ensures.value) past)
 
@@ -73,3 +74,17 @@ pub returns-in-None-get-clause-size : goal.returns-in-None-get-clause-size
 returns-in-None-get-clause-size c =
     let i = c.self.inside in
     subst (λ (m : Managed). length m.state.slots ≡ m.slots) c.self.view_is (state_size i.translation i.live i.arrangement i.held)
+
+-- with none that stands none is next
+pub returns-then-held-eq0-clause-next : goal.returns-then-held-eq0-clause-next
+returns-then-held-eq0-clause-next c =
+    let i = c.self.inside in
+    let held = c.in-Some.held in
+    let is : i.held ≡ Some held = c.in-Some.is in
+    let view : view_of i.placement i.translation i.rules i.live i.arrangement i.held ≡ c.args.self.now = c.self.view_is in
+    let back : is_turned (view_of i.placement i.translation i.rules i.live i.arrangement i.held).held ≡ true = rw (← c.self.view_is) at c.requires in
+    let turned = back_way held.turned (undo_left i.translation i.arrangement i.live.entries held) (subst (λ (h : Option Held). is_turned (view_of i.placement i.translation i.rules i.live i.arrangement h).held ≡ true) is back) in
+    let none : None ≡ next_of (view_of i.placement i.translation i.rules i.live i.arrangement (Some held)).held =
+    sym (none_back i.translation i.rules i.live i.arrangement held turned.0 turned.1 c.if-held-eq0.true) in
+    subst (λ (m : Managed). None ≡ next_of m.held) view
+    (subst (λ (h : Option Held). None ≡ next_of (view_of i.placement i.translation i.rules i.live i.arrangement h).held) (sym is) none)

@@ -1,14 +1,13 @@
 use Rattle.std.proofs.Common.{◌≡◌, ℕ, ◌≤◌, ◌+◌, ◌*◌, ◌^◌, ◌∙◌, false, true, List, length, map, Option, Some, None, Ok, Err, OnErr, Result, refl, sym, ap, subst, arith}
 use Rattle.std.specs.List.{AllByRecursion, AllZip}
 use Rattle.std.proofs.lemmas.List.{length-map}
-use Rattle.slot_order.specs.Order.{most_slots}
 use Rattle.slot_pool.specs.Arrangement.{Slots}
 use Rattle.rule_model.specs.declared.Rule.{Rule}
 use Rattle.placement.specs.declared.LivePiece.{LivePiece}
 use Rattle.rule_store.specs.declared.Mode.{Mode}
 use Rattle.rule_store.specs.declared.Command.{Command}
 use Rattle.rule_store.specs.Store.{StoredRules}
-use Rattle.rule_store.specs.Batch.{ChangesRules, batch_fault}
+use Rattle.rule_store.specs.Batch.{ChangesRules, batch_fault, most_commands}
 use Rattle.rule_store.specs.Verdict.{verdict, Accepted, entries_of}
 use Rattle.rule_model.specs.Entry.{RankedPiece, IsEncodable}
 use Rattle.commit_writes.specs.declared.Rewrite.{Rewrite}
@@ -89,7 +88,7 @@ reserve-requires c =
     let i = c.self.inside in
     let few = entries_few i.translation i.rules i.live i.arrangement i.held c.self.invariant in
     let fewer = rules_entries (mode_of i.translation) i.rules.rules c.self.invariant.right in
-    let most : c.len.result ≤ most_slots = c.len.ensures.most in
+    let most : c.len.result ≤ most_commands = c.len.ensures.most in
     omega arith
 
 -- the parts of the commit, with the live ranges of the plan

@@ -6,14 +6,15 @@ use Rattle.rule_store.specs.Verdict.{verdict, verdict_by, room_verdict}
 use Rattle.readback.specs.declared.Rejection.{Rejection}
 use Rattle.readback.specs.declared.Rejection.TheVariants as rejection
 use Rattle.readback.specs.Judged.{judgement}
+use Rattle.tcam_device.specs.Flight.{writes_in}
 use Rattle.batch_order.specs.declared.Refusal.TheVariants as refusal
-use Rattle.batch_order.specs.Managed.{Managed, HeldCommit, Judges, Answers, writes_due}
+use Rattle.batch_order.specs.Managed.{Managed, HeldCommit, Judges, Answers}
 use Rattle.batch_order.proofs.manager.Manager.plan_commit.Goals as goal
 
 -- no commit is under way where none has a number of writes left
-idle_from : (held : Option HeldCommit) (left : Option ℕ) → left ≡ option_map (λ one. length (writes_due one)) held → ((n : ℕ) → left ≡ Some n → ⊥) → held ≡ None
+idle_from : (held : Option HeldCommit) (left : Option ℕ) → left ≡ option_map (λ one. length (writes_in one.actions)) held → ((n : ℕ) → left ≡ Some n → ⊥) → held ≡ None
 idle_from None left is none = refl
-idle_from (Some held) left is none = absurd (none (length (writes_due held)) is)
+idle_from (Some held) left is none = absurd (none (length (writes_in held.actions)) is)
 
 -- a batch is rejected as it is judged
 rejected_answer : (manager : Managed) (held : Option HeldCommit) (batch : List Command) (rejection : Rejection) → held ≡ None

@@ -7,12 +7,13 @@ use Rattle.commit_writes.specs.declared.Rewrite.{Rewrite}
 use Rattle.commit_writes.specs.Undo.{restoring}
 use Rattle.batch_order.specs.declared.held.Held.{Held}
 use Rattle.batch_order.specs.declared.planned_writes.PlannedWrite.{PlannedWrite}
-use Rattle.batch_order.specs.Kept.{IsManaged}
+use Rattle.batch_order.specs.Kept.{IsManaged, undo_left}
 use Rattle.batch_order.specs.Managed.{Managed}
 use Rattle.batch_order.specs.Planning.{as_write, as_writes}
 use Rattle.batch_order.specs.Steps.{IsPlainlyForward, next_of}
 use Rattle.batch_order.proofs.under_way.Carried.{view_of}
 use Rattle.batch_order.proofs.back.Replaced.{restores_next}
+use Rattle.batch_order.proofs.under_way.Ways.{forward_way}
 use Rattle.batch_order.proofs.manager.Manager.replaced.Goals as goal
 
 pub returns-in-Some-get : goal.returns-in-Some-get
@@ -27,7 +28,7 @@ returns-in-Some-get c write plain next =
     let straight = subst (λ (h : Option Held). IsPlainlyForward (view_of i.placement i.translation i.rules i.live i.arrangement h).held) is forward in
     let first : next_of (view_of i.placement i.translation i.rules i.live i.arrangement i.held).held ≡ Some write = rw (← c.self.view_is) at next in
     let due = subst (λ (h : Option Held). next_of (view_of i.placement i.translation i.rules i.live i.arrangement h).held ≡ Some write) is first in
-    let restored = restores_next i.translation i.rules i.live i.arrangement held managed straight.0 straight.1 write due in
+    let restored = restores_next i.translation i.rules i.live i.arrangement held managed straight.0 (forward_way held.turned (undo_left i.translation i.arrangement i.live.entries held) straight.1) write due in
     let one : PlannedWrite = c.in-Some-get.planned.now in
     let planned : slice_get held.undo.items held.made ≡ Some one =
     subst (λ (some : List PlannedWrite). slice_get some held.made ≡ Some one) c.deref.ensures.value
@@ -50,7 +51,7 @@ returns-in-None-get c write plain next =
     let straight = subst (λ (h : Option Held). IsPlainlyForward (view_of i.placement i.translation i.rules i.live i.arrangement h).held) is forward in
     let first : next_of (view_of i.placement i.translation i.rules i.live i.arrangement i.held).held ≡ Some write = rw (← c.self.view_is) at next in
     let due = subst (λ (h : Option Held). next_of (view_of i.placement i.translation i.rules i.live i.arrangement h).held ≡ Some write) is first in
-    let restored = restores_next i.translation i.rules i.live i.arrangement held managed straight.0 straight.1 write due in
+    let restored = restores_next i.translation i.rules i.live i.arrangement held managed straight.0 (forward_way held.turned (undo_left i.translation i.arrangement i.live.entries held) straight.1) write due in
     let past : false ≡ nat_lt held.made (length c.deref.result.now) = sym (ap is_some c.in-None-get.is) ∙ c.get.ensures.lookup.0 in
     let inside : held.made < length (as_writes entries held.rewrites.items held.undo.items) = slice_get_within (as_writes entries held.rewrites.items held.undo.items) held.made _ restored in
     let size : length (as_writes entries held.rewrites.items held.undo.items) ≡ length held.undo.items = length-map held.undo.items (as_write entries held.rewrites.items) in

@@ -1,4 +1,4 @@
-use Rattle.std.proofs.Common.{◌≡◌, ℕ, List, Some, sym, subst, ap₂}
+use Rattle.std.proofs.Common.{◌≡◌, ℕ, List, Some, refl, sym, subst, ap₂}
 use Rattle.rule_store.specs.declared.Mode.{Mode}
 use Rattle.rule_store.specs.declared.Command.{Command}
 use Rattle.tcam_device.specs.State.{State, replay}
@@ -6,6 +6,7 @@ use Rattle.tcam_device.specs.Flight.{writes_in}
 use Rattle.tcam_device.specs.View.{device_state}
 use Rattle.readback.specs.declared.Parts.{Parts}
 use Rattle.batch_order.specs.declared.Placement.{Placement}
+use Rattle.batch_order.specs.CarriedOut.{GoesForward}
 use Rattle.batch_order.specs.Managed.{Managed, Serves}
 use Rattle.batch_order.specs.Restart.{Resumes}
 use Rattle.batch_order.specs.Standing.{managed_by}
@@ -37,3 +38,7 @@ returns-in-Ok-resume-clause-serves g c =
     let m : Managed = managed_by c.args.placement made.translation c.resume.new.parts.rules made.live made.arrangement (Some made.held) in
     subst (λ (s : State). Serves s m.rules m.held) (sym same)
     (serves_both c.args.slots c.args.mode c.args.placement c.args.parts c.args.batch.now (g.D.Writable.view c.args.device.now).slots state m c.in-Ok-resume.ensures.resumes)
+
+-- it goes on, with nothing made
+pub returns-in-Ok-resume-clause-forward : goal.returns-in-Ok-resume-clause-forward
+returns-in-Ok-resume-clause-forward g c = subst (λ (m : Managed). GoesForward m.held) (sym c.in-Ok-resume.ensures.resumes.new_is) refl

@@ -2,12 +2,13 @@ use Rattle.std.proofs.Common.{◌≡◌, ℕ, true, Option, Some, None, subst, s
 use Rattle.std.specs.Prelude.{unwrap_or}
 use Rattle.batch_order.specs.declared.held.Held.{Held}
 use Rattle.batch_order.specs.declared.Step.TheVariants as step
-use Rattle.batch_order.specs.Kept.{IsManaged}
+use Rattle.batch_order.specs.Kept.{IsManaged, undo_left}
 use Rattle.batch_order.specs.Managed.{Managed}
 use Rattle.batch_order.specs.Steps.{IsAllMade, Steps, is_turned}
-use Rattle.batch_order.proofs.back.Back.{turned_of, way}
+use Rattle.batch_order.proofs.back.Back.{way}
 use Rattle.batch_order.proofs.under_way.Carried.{view_of}
 use Rattle.batch_order.proofs.back.Reverted.{IsReverted, managed_reverted, revert_steps}
+use Rattle.batch_order.proofs.under_way.Ways.{back_way}
 use Rattle.batch_order.proofs.manager.Manager.revert.Goals as goal
 
 pub forget_all-requires : goal.forget_all-requires
@@ -16,7 +17,7 @@ forget_all-requires c =
     let was : c.self.inside.held ≡ Some c.in-Some.held = cc in
     let before = subst (IsManaged c.self.inside.translation c.self.inside.rules c.self.inside.live c.self.inside.arrangement) was c.self.invariant in
     let back : is_turned (view_of i.placement i.translation i.rules i.live i.arrangement i.held).held ≡ true = rw (← c.self.view_is) at c.requires.turned in
-    let turned = turned_of c.in-Some.held.turned (subst (λ (h : Option Held). is_turned (view_of i.placement i.translation i.rules i.live i.arrangement h).held ≡ true) was back) in
+    let turned = back_way c.in-Some.held.turned (undo_left i.translation i.arrangement i.live.entries c.in-Some.held) (subst (λ (h : Option Held). is_turned (view_of i.placement i.translation i.rules i.live i.arrangement h).held ≡ true) was back) in
     (way i.translation i.rules i.live i.arrangement c.in-Some.held before turned.0 turned.1).added
 
 pub invariant_of-self-in-Some : goal.invariant_of-self-in-Some
@@ -27,7 +28,7 @@ invariant_of-self-in-Some c =
     let before = subst (IsManaged i.translation i.rules i.live i.arrangement) was c.self.invariant in
     let reverted : IsReverted i.live c.forget_all.new.live held = record { live = c.forget_all.ensures.live; entries = c.forget_all.ensures.kept; slots = c.forget_all.ensures.slots } in
     let back : is_turned (view_of i.placement i.translation i.rules i.live i.arrangement i.held).held ≡ true = rw (← c.self.view_is) at c.requires.turned in
-    let turned = turned_of held.turned (subst (λ (h : Option Held). is_turned (view_of i.placement i.translation i.rules i.live i.arrangement h).held ≡ true) was back) in
+    let turned = back_way held.turned (undo_left i.translation i.arrangement i.live.entries held) (subst (λ (h : Option Held). is_turned (view_of i.placement i.translation i.rules i.live i.arrangement h).held ≡ true) was back) in
     rw c.take.ensures.after (managed_reverted i.translation i.rules i.live c.forget_all.new.live i.arrangement held before (way i.translation i.rules i.live i.arrangement held before turned.0 turned.1) reverted)
 
 pub returns-in-Some : goal.returns-in-Some
@@ -41,7 +42,7 @@ returns-in-Some c words =
     let all : IsAllMade (view_of i.placement i.translation i.rules i.live i.arrangement i.held).held = rw (← c.self.view_is) at c.requires.made in
     let back : is_turned (view_of i.placement i.translation i.rules i.live i.arrangement i.held).held ≡ true = rw (← c.self.view_is) at c.requires.turned in
     let made = subst (λ (h : Option Held). IsAllMade (view_of i.placement i.translation i.rules i.live i.arrangement h).held) was all in
-    let turned = turned_of held.turned (subst (λ (h : Option Held). is_turned (view_of i.placement i.translation i.rules i.live i.arrangement h).held ≡ true) was back) in
+    let turned = back_way held.turned (undo_left i.translation i.arrangement i.live.entries held) (subst (λ (h : Option Held). is_turned (view_of i.placement i.translation i.rules i.live i.arrangement h).held ≡ true) was back) in
     let number : c.unwrap_or-undone.result ≡ turned.0 = c.unwrap_or-undone.ensures ∙ ap (λ (t : Option ℕ). unwrap_or t 0) turned.1 in
     let new = view_of i.placement i.translation i.rules c.forget_all.new.live i.arrangement None in
     let steps : Steps (view_of i.placement i.translation i.rules i.live i.arrangement i.held) words (view_of i.placement i.translation i.rules i.live i.arrangement i.held).held (step.Reverted turned.0) new =

@@ -1,11 +1,15 @@
-use Rattle.std.proofs.Common.{◌≡◌, ◌≤◌, ℕ, Option, Some, None, length, subst}
+use Rattle.std.proofs.Common.{◌≡◌, ◌≤◌, ℕ, Option, Some, None, length, subst, arith}
 use Rattle.std.specs.Prelude.{IfSome}
+use Rattle.slot_order.specs.Order.{most_slots}
+use Rattle.rule_store.specs.Verdict.{entries_of}
 use Rattle.tcam_device.specs.State.{Shows, on_device}
 use Rattle.tcam_device.specs.Hitless.{ShowsOldOrNew}
 use Rattle.batch_order.specs.declared.held.Held.{Held}
-use Rattle.batch_order.specs.Kept.{IsManaged}
+use Rattle.batch_order.specs.Kept.{IsManaged, mode_of}
 use Rattle.batch_order.specs.Managed.{Managed}
 use Rattle.batch_order.specs.Steps.{ServesNow}
+use Rattle.batch_order.proofs.ids.Needed.{rules_entries}
+use Rattle.batch_order.proofs.planning.Judged.{entries_few}
 use Rattle.batch_order.proofs.under_way.Carried.{view_of}
 use Rattle.batch_order.proofs.served.Resting.{serves_now}
 use Rattle.batch_order.proofs.served.Answered.{idle_answers, held_answers}
@@ -40,3 +44,12 @@ returns-clause-serves c =
     let i = c.self.inside in
     let view : view_of i.placement i.translation i.rules i.live i.arrangement i.held ≡ c.args.self.now = c.self.view_is in
     subst ServesNow view (serves_now i.placement i.translation i.rules i.live i.arrangement i.held c.self.invariant)
+
+pub returns-clause-few : goal.returns-clause-few
+returns-clause-few c =
+    let i = c.self.inside in
+    let view : view_of i.placement i.translation i.rules i.live i.arrangement i.held ≡ c.args.self.now = c.self.view_is in
+    let most : entries_of (mode_of i.translation) i.rules.rules ≤ most_slots = entries_few i.translation i.rules i.live i.arrangement i.held c.self.invariant in
+    let fewer = rules_entries (mode_of i.translation) i.rules.rules c.self.invariant.right in
+    let few : length i.rules.rules ≤ most_slots = omega arith in
+    subst (λ (m : Managed). length m.rules ≤ most_slots) view few

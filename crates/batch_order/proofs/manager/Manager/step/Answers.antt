@@ -96,11 +96,11 @@ returns-in_ok-write-in-Some-clause-serves g c on =
 
 pub returns-in-None-clause-keeps : goal.returns-in-None-clause-keeps
 returns-in-None-clause-keeps g c =
-    (steps_keep_current c.args.self.now (length (g.D.Writable.view c.args.device.now).flight) c.end-step.result c.end-step.new.self c.serving.ensures.right c.end-step.ensures.stepped).1
+    (steps_keep_current c.args.self.now (length (g.D.Writable.view c.args.device.now).flight) c.end-step.result c.end-step.new.self c.serving.ensures.right c.end-step.ensures.stepped)
 
 pub returns-in_ok-write-in-Some-clause-keeps : goal.returns-in_ok-write-in-Some-clause-keeps
 returns-in_ok-write-in-Some-clause-keeps g c =
-    (steps_keep_current c.args.self.now (length (g.D.Writable.view c.args.device.now).flight) c.advance-step.result c.advance-step.new.self c.serving.ensures.right (wrote_step g c)).1
+    (steps_keep_current c.args.self.now (length (g.D.Writable.view c.args.device.now).flight) c.advance-step.result c.advance-step.new.self c.serving.ensures.right (wrote_step g c))
 
 pub returns-in_ok-write-in-Some-clause-way_back : goal.returns-in_ok-write-in-Some-clause-way_back
 returns-in_ok-write-in-Some-clause-way_back g c begun way =

@@ -4,6 +4,7 @@ use Rattle.tcam_device.specs.View.{device_state, journal}
 use Rattle.rule_model.specs.Entry.{RankedPiece}
 use Rattle.commit_writes.specs.PlannedBatch.{erased_slots}
 use Rattle.readback.proofs.ReadSlots.{replay_slots}
+use Rattle.batch_order.specs.Arranged.{arranged_at}
 use Rattle.batch_order.specs.declared.plan.Plan.{Plan}
 use Rattle.batch_order.specs.declared.restarting.resuming.Rest.{Rest}
 use Rattle.batch_order.specs.Kept.{bits_of}
@@ -95,7 +96,7 @@ returns-clause-planned g c =
     (first_planned c.args.translation.now c.args.mode c.args.rules.now.rules c.args.batch.now state shown.stage.twin begun plan c.requires.mode c.requires.stopped.can c.requires.tables
     c.in_ok-bits.ensures.writes c.in_ok-bits.ensures.words (c.plan_words.ensures.most ∙ c.new-plan.ensures.most) (c.plan_words.ensures.span ∙ c.new-plan.ensures.span)
     c.in_ok-plan_twin.ensures.writes c.plan_twin.ensures.no_changes refl refl refl)
-    (subst (λ (some : List RankedPiece). AreAllPlanned was.live c.plan_rest.new.live was.arrangement c.plan_rest.new.arrangement plan c.plan_rest.new.plan some
+    (subst (λ (some : List RankedPiece). AreAllPlanned (arranged_at was.live was.arrangement) (arranged_at c.plan_rest.new.live c.plan_rest.new.arrangement) plan c.plan_rest.new.plan some
     (aims_from c.args.placement c.args.mode (length was.arrangement) c.args.rules.now.rules (length was.live.live + length some) shown.stage.done some) left.rewrites.items left.erased.items)
     c.in_ok-left.ensures.inserted c.in_ok-ids.ensures.planned)
     c.in_ok-ids.ensures.adds c.in_ok-left.ensures.rewrites c.in_ok-left.ensures.erased

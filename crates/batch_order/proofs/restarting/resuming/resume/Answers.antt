@@ -1,5 +1,5 @@
 use Rattle.std.proofs.Common.{◌≡◌, ◌≤◌, List, Option, length, sym, subst, arith}
-use Rattle.slot_order.specs.Order.{most_slots}
+use Rattle.rule_store.specs.Batch.{most_commands}
 use Rattle.rule_model.specs.Entry.{RankedPiece}
 use Rattle.tcam_device.specs.View.{device_state}
 use Rattle.batch_order.specs.Standing.{AreEncodable, AreStanding, HasPieceOf, without_twin}
@@ -51,7 +51,7 @@ pub reserve-requires : goal.reserve-requires
 reserve-requires g c =
     let r = c.requires in
     let few = few_rules (stopped_by r.least r.most r.slots r.is_state r.can r.accepted r.found r.shown r.encodable) in
-    let most : c.len.result ≤ most_slots = c.len.ensures.most in
+    let most : c.len.result ≤ most_commands = c.len.ensures.most in
     omega arith
 
 -- what it makes in the end

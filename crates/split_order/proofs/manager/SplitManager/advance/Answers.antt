@@ -32,6 +32,7 @@ invariant_of-self c =
       events = c.and-self-inside.ensures;
       begun = refl;
       counts = refl;
+      right = c.serving.ensures.right;
       on_last = λ last. absurd (let wrong : true ≡ false = sym last ∙ c.if-not-due.true in cc);
       on_more = λ more. (omega arith, refl);
     } in
@@ -46,6 +47,7 @@ returns-then-not-due c slots wide =
       events = c.and-self-inside.ensures;
       begun = refl;
       counts = refl;
+      right = c.serving.ensures.right;
       on_last = λ last. absurd (let wrong : true ≡ false = sym last ∙ c.if-not-due.true in cc);
       on_more = λ more. (omega arith, refl);
     } in
@@ -61,6 +63,7 @@ invariant_of-self-2 c =
       events = c.and-self-inside.ensures;
       begun = refl;
       counts = refl;
+      right = c.serving.ensures.right;
       on_last = λ last. (refl, (Wrote due.0, c.pass_write.ensures 0 due.0 due.1));
       on_more = λ more. absurd (let wrong : false ≡ true = sym more ∙ c.if-not-due.false in cc);
     } in
@@ -76,6 +79,7 @@ returns c slots wide =
       events = c.and-self-inside.ensures;
       begun = refl;
       counts = refl;
+      right = c.serving.ensures.right;
       on_last = λ last. (refl, (Wrote due.0, c.pass_write.ensures 0 due.0 due.1));
       on_more = λ more. absurd (let wrong : false ≡ true = sym more ∙ c.if-not-due.false in cc);
     } in

@@ -22,4 +22,4 @@ returns-clause-ahead c =
 pub returns-clause-drain : goal.returns-clause-drain
 returns-clause-drain c is =
     let due : c.due.result ≡ due_of c.self.inside.manager.held = c.due.ensures.due in
-    rw (← c.self.view_is) (drain_forward c.self.inside.manager.held (sym due ∙ is))
+    rw (← c.self.view_is) (drain_forward c.self.inside.manager c.serving.ensures.right (sym due ∙ is))

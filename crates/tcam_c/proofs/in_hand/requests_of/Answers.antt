@@ -1,6 +1,0 @@
-use Rattle.tcam_c.proofs.Asked.{strict_next}
-use Rattle.tcam_c.proofs.in_hand.requests_of.Goals as goal
-
-pub loop-i-preserved : goal.loop-i-preserved
-loop-i-preserved c =
-    strict_next c.args.batch.now c.loop-i.i c.at-command.result c.loop-i.requests c.push.new.self c.at-command.ensures c.loop-i.invariant c.in-Ok.ensures.pushed
