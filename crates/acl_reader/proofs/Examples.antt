@@ -9,7 +9,7 @@ use Rattle.line_words.specs.declared.WordFault.{WordFault}
 use Rattle.line_words.specs.declared.WordFault.TheVariants.{UnknownCommand, WordCount, HostBits, BadSequence, BadAction, BadProtocol, BadPorts, BadAddress}
 use Rattle.line_words.specs.Kinds.{ipv4_notation}
 use Rattle.acl_reader.specs.declared.AclCommand.{AclCommand}
-use Rattle.acl_reader.specs.declared.AclCommand.TheVariants.{Add, Set, Del, Common}
+use Rattle.acl_reader.specs.declared.AclCommand.TheVariants.{Add, Set, Del, Put, Drop, All, Common}
 use Rattle.line_words.specs.declared.commands.CommonCommand.TheVariants.{Probe}
 use Rattle.acl_reader.specs.Grammar.{acl_line}
 
@@ -34,6 +34,21 @@ set = refl
 
 del : read (codes "acl del 7") ≡ Ok (Some (Del 7))
 del = refl
+
+put : read (codes "acl put 10 =7 any 10.0.0.0/8 tcp any 80") ≡ Ok (Some (Put (rule 10 7 (ipv4_block 0x0a000000 8) (Some 6) (record { lo = 80; hi = 80 }))))
+put = refl
+
+put-count : read (codes "acl put 10 permit") ≡ Err WordCount
+put-count = refl
+
+drop : read (codes "acl drop 7") ≡ Ok (Some (Drop 7))
+drop = refl
+
+all : read (codes "acl all") ≡ Ok (Some All)
+all = refl
+
+all-count : read (codes "acl all 10") ≡ Err WordCount
+all-count = refl
 
 probe : read (codes "probe 0.0.0.0 10.1.2.3 tcp 0 80") ≡ Ok (Some (Common (Probe (record { src = 0; dst = ipv4_address 0x0a010203; proto = 6; sport = 0; dport = 80 }))))
 probe = refl

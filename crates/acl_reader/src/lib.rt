@@ -3,6 +3,9 @@
 //!     acl add SEQ ACTION SIDE SIDE PROTOSPEC PORTSPEC PORTSPEC
 //!     acl set SEQ ACTION
 //!     acl del SEQ
+//!     acl put SEQ ACTION SIDE SIDE PROTOSPEC PORTSPEC PORTSPEC
+//!     acl drop SEQ
+//!     acl all
 //!     probe KEY
 //!     packet KEY
 //!     frame HEX
@@ -21,7 +24,7 @@
 ghost use Rattle.std.specs.Prelude.{◌≡◌, ◌≤◌, ◌∷◌, codes, take};
 ghost use Rattle.std.specs.Str.{bytes_eq};
 ghost use Rattle.line_words.specs.Notations.{notation_for};
-ghost use Rattle.acl_reader.specs.Grammar.{acl_command, acl_line, acl_words, addition, change, removal};
+ghost use Rattle.acl_reader.specs.Grammar.{acl_command, acl_line, acl_words, addition, change, forgiving_addition, forgiving_removal, listed_rule, removal, whole_set};
 
 use line_words::{
     CommonCommand, WordFault, Words, action_of, command_words, common_command, ports_of,
@@ -39,6 +42,12 @@ pub enum AclCommand {
     Set(u32, u32),
     /// Removes the rule of this sequence number.
     Del(u32),
+    /// Has a rule stand, whether one of its sequence number stood or not.
+    Put(Rule),
+    /// Has no rule of this sequence number stand, whether one stood or not.
+    Drop(u32),
+    /// Has the changes from here to the commit make the whole new set.
+    All,
     /// One that both kinds of script have.
     Common(CommonCommand),
 }
@@ -85,13 +94,23 @@ fn acl_words(mut words: Words<'_>, version: IpVersion) -> Result<AclCommand, Wor
         b"add" => addition(words, version),
         b"set" => change(words),
         b"del" => removal(words),
+        b"put" => forgiving_addition(words, version),
+        b"drop" => forgiving_removal(words),
+        b"all" => whole_set(words),
         _ => Err(WordFault::UnknownCommand),
     }
 }
 
 /// The addition of a rule, from its seven words.
-fn addition(mut words: Words<'_>, version: IpVersion) -> Result<AclCommand, WordFault>
+fn addition(words: Words<'_>, version: IpVersion) -> Result<AclCommand, WordFault>
     ensures { result ≡ addition (notation_for version) words.entry }
+{
+    Ok(AclCommand::Add(listed_rule(words, version)?))
+}
+
+/// The rule of a list, from its seven words.
+fn listed_rule(mut words: Words<'_>, version: IpVersion) -> Result<Rule, WordFault>
+    ensures { result ≡ listed_rule (notation_for version) words.entry }
 {
     let sequence = words.required()?;
     let action = words.required()?;
@@ -103,7 +122,7 @@ fn addition(mut words: Words<'_>, version: IpVersion) -> Result<AclCommand, Word
     words.end()?;
     let number = sequence_of(sequence)?;
     let answer = action_of(action)?;
-    Ok(AclCommand::Add(Rule {
+    Ok(Rule {
         priority: list_rank(number),
         src: side_of(src, version)?,
         dst: side_of(dst, version)?,
@@ -111,7 +130,7 @@ fn addition(mut words: Words<'_>, version: IpVersion) -> Result<AclCommand, Word
         sport: ports_of(sport)?,
         dport: ports_of(dport)?,
         result: answer,
-    }))
+    })
 }
 
 /// The new result of a rule, from its two words.
@@ -131,4 +150,28 @@ fn removal(mut words: Words<'_>) -> Result<AclCommand, WordFault>
     let sequence = words.required()?;
     words.end()?;
     Ok(AclCommand::Del(sequence_of(sequence)?))
+}
+
+/// A rule that is to stand, from its seven words.
+fn forgiving_addition(words: Words<'_>, version: IpVersion) -> Result<AclCommand, WordFault>
+    ensures { result ≡ forgiving_addition (notation_for version) words.entry }
+{
+    Ok(AclCommand::Put(listed_rule(words, version)?))
+}
+
+/// A rule that is to go, from its one word.
+fn forgiving_removal(mut words: Words<'_>) -> Result<AclCommand, WordFault>
+    ensures { result ≡ forgiving_removal words.entry }
+{
+    let sequence = words.required()?;
+    words.end()?;
+    Ok(AclCommand::Drop(sequence_of(sequence)?))
+}
+
+/// The beginning of a whole new set, where no word is left.
+fn whole_set(words: Words<'_>) -> Result<AclCommand, WordFault>
+    ensures { result ≡ whole_set words.entry }
+{
+    words.end()?;
+    Ok(AclCommand::All)
 }

@@ -13,7 +13,7 @@ use Rattle.route_reader.specs.Grammar.{route_line}
 use Rattle.acl_reader.specs.Grammar.{acl_line}
 use Rattle.json_text.specs.JsonText.{IsPlainText}
 use Rattle.replay.specs.declared.Act.{Act}
-use Rattle.replay.specs.declared.Act.TheVariants.{Command, Probe, Packet, Commit, Trial, Crash}
+use Rattle.replay.specs.declared.Act.TheVariants.{Command, Ask, All, Probe, Packet, Commit, Trial, Crash}
 use Rattle.report_lines.specs.declared.Family.{Family}
 use Rattle.report_lines.specs.declared.Family.TheVariants.{Route, Acl, Route6, Acl6}
 use Rattle.replay.specs.Effects.{Setting}
@@ -33,6 +33,9 @@ none_plain = plain_text [] refl refl refl
 
 pub batch_plain : IsPlainFault (codes "batch full")
 batch_plain = plain_text (codes "batch full") refl refl refl
+
+pub changes_plain : IsPlainFault (codes "changes pending")
+changes_plain = plain_text (codes "changes pending") refl refl refl
 
 pub probes_plain : IsPlainFault (codes "too many probes")
 probes_plain = plain_text (codes "too many probes") refl refl refl
@@ -69,6 +72,8 @@ of_words act (Err fault) text is = subst IsPlainFault (let e : word_fault_text f
 
 of_act : (act : Act) (text : List ℕ) → told_by true act ≡ Err text → IsPlainFault text
 of_act (Command change) text is = absurd (cc)
+of_act (Ask request) text is = absurd (cc)
+of_act All text is = absurd (cc)
 of_act (Probe key) text is = absurd (cc)
 of_act (Packet key) text is = absurd (cc)
 of_act Commit text is = absurd (cc)

@@ -2,6 +2,7 @@ pub mod Narrowed
 pub mod TraceWords
 pub mod TraceRules
 pub mod EventsWithin
+pub mod SettledTold
 pub mod Standing
 pub mod Texts
 pub mod Through

@@ -17,7 +17,7 @@ use Rattle.tcam_cli.specs.Headline.{closing_line, IsComplete, IsOutcome}
 use Rattle.tcam_cli.specs.Readings.{reading_by}
 use Rattle.json_traces.specs.Traces.{AreTraceActs, WantsTrace, accepted_in}
 use Rattle.json_traces.specs.Promised.{IsReported, JsonReportsGetYes}
-use Rattle.json_traces.proofs.FaultTexts.{batch_plain, probes_plain, reading_plain, byte_plain, none_plain}
+use Rattle.json_traces.proofs.FaultTexts.{batch_plain, byte_plain, changes_plain, none_plain, probes_plain, reading_plain}
 use Rattle.json_traces.proofs.Runs.{few_commits}
 use Rattle.json_traces.proofs.ScriptLines.{reads_traces}
 use Rattle.json_traces.proofs.Scripts.{EndsPlainly, acts_told, ends_plainly, act_count, few_lines}
@@ -42,7 +42,7 @@ module _ (setting : Setting) (device_slots : ℕ) (wants : WantsTrace setting de
   plain : EndsPlainly script.last
   plain =
       let few = few_lines bytes in
-      ends_plainly (reading_by setting) (reading_plain setting wants.json) batch_plain probes_plain (lines_of bytes).last (byte_plain (lines_of bytes).last few.last) (lines_of bytes).lines few.numbered 0 0
+      ends_plainly (reading_by setting) (reading_plain setting wants.json) batch_plain changes_plain probes_plain (lines_of bytes).last (byte_plain (lines_of bytes).last few.last) (lines_of bytes).lines few.numbered 0 0
 
   -- the commits are no more than the lines
   commits_few : (body : List Effect) (last : Progress) → Runs setting device_slots (acts_of script) body last → last.commits < 2 ^ 32

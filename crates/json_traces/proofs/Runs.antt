@@ -6,7 +6,7 @@ use Rattle.slot_order.specs.Order.{most_slots}
 use Rattle.slot_order.proofs.Lists.{all_append}
 use Rattle.rule_model.specs.declared.IpVersion.{IpVersion}
 use Rattle.rule_store.specs.declared.Command.{Command as Change}
-use Rattle.rule_store.specs.Batch.{most_pending, set_after}
+use Rattle.rule_store.specs.Batch.{most_commands, set_after}
 use Rattle.rule_store.specs.Verdict.{Verdict, Accepted, Unsound, OutOfBits, OutOfSlots, verdict}
 use Rattle.tcam_device.specs.declared.Write.{Write}
 use Rattle.tcam_device.specs.declared.Action.{Action}
@@ -27,12 +27,18 @@ use Rattle.trace_check.specs.Orderly.{Tracing, traced_on, AllKeepOrder}
 use Rattle.trace_check.specs.Places.{Part, Refusal, Work, IsPart, part_lines, parts_lines}
 use Rattle.trace_check.specs.Segments.{action_line, commit_lines}
 use Rattle.replay.specs.declared.Act.{Act}
-use Rattle.replay.specs.declared.Act.TheVariants.{Command, Probe, Packet, Commit, Trial, Crash}
+use Rattle.replay.specs.declared.Act.TheVariants.{Command, Ask, All, Probe, Packet, Commit, Trial, Crash}
 use Rattle.replay.specs.Effects.{Setting, Effect, Prints, journal_of, printed}
 use Rattle.replay.specs.JsonLines.{behind, change_line, shared_line}
 use Rattle.report_lines.specs.Text.{family_version}
-use Rattle.replay.specs.Reports.{head_due}
-use Rattle.replay.specs.Run.{Progress, Commits, Refuses, Judged, Run, actions_for, after_refusal, after_segment, carried}
+use Rattle.replay.specs.Reports.{head_due, refusal_line}
+use Rattle.settled_changes.specs.declared.Request.{Request}
+use Rattle.settled_changes.specs.declared.Request.TheVariants.{Strict}
+use Rattle.settled_changes.specs.declared.requested.Requested.{Requested}
+use Rattle.settled_changes.specs.declared.requested.Requested.TheVariants.{Nothing, Changes, Whole}
+use Rattle.settled_changes.specs.Requested.{asked_behind, asked_with, batch_behind, batch_with, changes_in, strict_form}
+use Rattle.replay.specs.Run.{Progress, Commits, Refuses, Judged, Run, actions_for, after_refusal, after_segment, carried, pending_verdict, settled_at}
+use Rattle.tcam_cli.proofs.OneMore.{more-behind, more-with}
 use Rattle.replay.proofs.lines.Effects.{printed-append, written-append}
 use Rattle.replay.proofs.lines.Written.{written-segment}
 use Rattle.tcam_cli.specs.AllTheWay.{Led, Stands, sets_through}
@@ -40,7 +46,9 @@ use Rattle.json_traces.specs.Traces.{trace_text, AreTraceActs}
 use Rattle.json_traces.proofs.EventsWithin.{TableFits, segment_tables, events_within}
 use Rattle.json_traces.proofs.TraceRules.{IsTraceChange, known_ranked}
 use Rattle.json_traces.proofs.Narrowed.{segments_on_devices}
-use Rattle.json_traces.proofs.Standing.{StandsIn, may_begin, stands_behind}
+use Rattle.settled_changes.proofs.AskedFor.{forms-strict}
+use Rattle.json_traces.proofs.SettledTold.{forms_more, forms_of}
+use Rattle.json_traces.proofs.Standing.{StandsIn, StandsWith, accepted_settled, may_begin, stands_behind, stands_settled}
 use Rattle.json_traces.proofs.Texts.{in_json, behind_append, none_due, of_commit, of_refusal}
 use Rattle.json_traces.proofs.Through.{traced_through, keeps_append, through_append, keeps_commands, through_commands, are_commands, command_count, are_events, with_made, through_events, writes-append, command_writes, event_writes, done_count, done-append, done-commit}
 
@@ -88,7 +96,7 @@ module _ (asked : Setting) (device_slots : ℕ) (few : asked.slots ≤ most_slot
     pub within : new.commits < 2 ^ 32 → AllByRecursion (IsTraceLineOf (family_version setting.family)) (parts_lines (commits + 1) parts)
 
   abbrev pub ActsGo : List Act → Progress → State → Tracing → List Effect → Progress → Type 0
-  ActsGo acts old state rest effects new = GoesFrom old.commits old.writes (standing setting old state rest) (sets_through setting [] old.rules old.batch acts) effects new
+  ActsGo acts old state rest effects new = GoesFrom old.commits old.writes (standing setting old state rest) (sets_through setting [] old.rules old.batch old.asked acts) effects new
 
   -- no act
   none : (old : Progress) (state : State) (rest : Tracing) → ActsGo [] old state rest [] old
@@ -118,10 +126,24 @@ module _ (asked : Setting) (device_slots : ℕ) (few : asked.slots ≤ most_slot
     counts : mid.writes ≡ old.writes + length (journal_of front)
     within : old.commits + 1 < 2 ^ 32 → AllByRecursion (IsTraceLineOf (family_version setting.family)) (part_lines (old.commits + 1) part)
 
+  -- a trace of what is settled goes on from where the run stood before that
+  of_settled : (part : Part) (old : Progress) (state : State) (rest : Tracing) (front : List Effect) (mid : Progress) (mid_state : State) (mid_rest : Tracing)
+      → OneGoes part (settled_at old) state rest front mid mid_state mid_rest → OneGoes part old state rest front mid mid_state mid_rest
+  of_settled part old state rest front mid mid_state mid_rest one = record {
+    is = one.is;
+    counted = one.counted;
+    text = one.text;
+    keeps = one.keeps;
+    comes = one.comes;
+    made = one.made;
+    counts = one.counts;
+    within = one.within;
+  }
+
   -- the sets that acts lead through are one more where the first of them is a commit that finishes
   abbrev LeadsOn : Progress → Act → Progress → List Act → Part → Type 0
   LeadsOn old act mid acts part =
-      length (sets_through setting [] old.rules old.batch (act ∷ acts)) ≡ done_count (part_lines (old.commits + 1) part) + length (sets_through setting [] mid.rules mid.batch acts)
+      length (sets_through setting [] old.rules old.batch old.asked (act ∷ acts)) ≡ done_count (part_lines (old.commits + 1) part) + length (sets_through setting [] mid.rules mid.batch mid.asked acts)
 
   -- and those behind it
   one_more : (old : Progress) (state : State) (rest : Tracing) (front : List Effect) (mid : Progress) (mid_state : State) (mid_rest : Tracing) (back : List Effect) (new : Progress) (act : Act) (acts : List Act) (part : Part)
@@ -230,7 +252,7 @@ module _ (asked : Setting) (device_slots : ℕ) (few : asked.slots ≤ most_slot
 
     part_is : IsPart setting.slots (Work commands events)
     part_is = (
-      subst (λ n. n ≤ most_pending) (sym (command_count old.batch)) stands.short,
+      subst (λ n. n ≤ most_commands) (sym (command_count old.batch)) stands.short,
       are_commands old.batch,
       are_events setting.slots actions (subst (AllByRecursion (IsInUse setting.slots)) (sym written) in_use),
     )
@@ -262,100 +284,133 @@ module _ (asked : Setting) (device_slots : ℕ) (few : asked.slots ≤ most_slot
 
   -- the rest of a run, from where it stands
   abbrev Later : List Act → Progress → List Effect → Progress → Type 0
-  Later acts mid back new = (state : State) (rest : Tracing) → StandsIn setting device_slots mid state → ActsGo acts mid state rest back new
+  Later acts mid back new = (state : State) (rest : Tracing) → StandsWith setting device_slots mid state → ActsGo acts mid state rest back new
 
   -- the sets by the verdict on a commit
   abbrev sets_by : List Act → Progress → Verdict → List Led
-  sets_by acts old is = elim is [ Accepted ↦ Stands old.rules ∷ sets_through setting [] (set_after old.rules old.batch) [] acts | _ ↦ sets_through setting [] old.rules [] acts ]
+  sets_by acts old is = elim is [ Accepted ↦ Stands old.rules ∷ sets_through setting [] (set_after old.rules old.batch) [] Nothing acts | _ ↦ sets_through setting [] old.rules [] Nothing acts ]
 
-  refusal_led : (acts : List Act) (old : Progress) (is : Verdict) → sets_by acts old is ≡ sets_through setting [] old.rules [] acts → verdict setting.slots setting.mode old.rules old.batch ≡ is
-      → LeadsOn old Commit (after_refusal old) acts Refusal
-  refusal_led acts old is none same =
-      let by : length (sets_through setting [] old.rules old.batch (Commit ∷ acts)) ≡ length (sets_through setting [] old.rules [] acts) = ap (λ (v : Verdict). length (sets_by acts old v)) same ∙ ap (λ (sets : List Led). length sets) none in
-      let more : length (sets_through setting [] old.rules [] acts) ≡ 0 + length (sets_through setting [] old.rules [] acts) = omega arith in
-      by ∙ more
+  module _ (acts : List Act) (pending : Progress) (state : State) (rest : Tracing) (front : List Effect) (mid : Progress) (back : List Effect) (new : Progress)
+      (stands : StandsWith setting device_slots pending state) (later : Later acts mid back new) where
+    -- where it stands once what is pending is settled
+    abbrev old : Progress
+    old = settled_at pending
 
-  accepted_goes : (acts : List Act) (old : Progress) (state : State) (rest : Tracing) (front : List Effect) (mid : Progress) (back : List Effect) (new : Progress) → StandsIn setting device_slots old state
-      → verdict setting.slots setting.mode old.rules old.batch ≡ Accepted → Commits setting old front mid → Later acts mid back new → ActsGo (Commit ∷ acts) old state rest (front ++ back) new
-  accepted_goes acts old state rest front mid back new stands accepted commits later =
-      let mid_state = state_after state commits.made in
-      let mid_rest : Tracing = record (ended old state rest stands accepted commits.made commits.segment commits.in_use) { accepted = (ended old state rest stands accepted commits.made commits.segment commits.in_use).accepted + 1 } in
-      let actions = actions_for setting old commits.made in
-      let next = length (sets_through setting [] (set_after old.rules old.batch) [] acts) in
-      let by : length (sets_through setting [] old.rules old.batch (Commit ∷ acts)) ≡ suc next = ap (λ (is : Verdict). length (sets_by acts old is)) accepted in
-      let one : done_count (part_lines (old.commits + 1) (Work (map change_line old.batch) (map action_line actions))) ≡ 1 = done-commit old.batch actions (old.commits + 1) in
-      let led : LeadsOn old Commit (after_segment setting old commits.made) acts (Work (map change_line old.batch) (map action_line actions)) = omega arith in
-      subst (λ (some : List Effect). ActsGo (Commit ∷ acts) old state rest (some ++ back) new) (sym commits.effects_are)
-      (one_more old state rest (carried setting old (actions_for setting old commits.made) ++ Prints (shared_line [] (line.Done (old.commits + 1))) ∷ []) (after_segment setting old commits.made) mid_state mid_rest back new Commit acts (Work (map change_line old.batch) (map action_line actions)) (commit_goes old state rest stands accepted commits.made commits.segment commits.in_use) led
-      (subst (λ p. Later acts p back new) commits.after later mid_state mid_rest (stands_behind setting device_slots old state commits.made stands accepted commits.segment commits.in_use)))
+    abbrev Goes : Type 0
+    Goes = ActsGo (Commit ∷ acts) pending state rest (front ++ back) new
 
-  refused_goes : (acts : List Act) (old : Progress) (state : State) (rest : Tracing) (reason : Verdict) (front : List Effect) (mid : Progress) (back : List Effect) (new : Progress) → StandsIn setting device_slots old state
-      → LeadsOn old Commit (after_refusal old) acts Refusal → Refuses setting old reason front mid → Later acts mid back new → ActsGo (Commit ∷ acts) old state rest (front ++ back) new
-  refused_goes acts old state rest reason front mid back new stands led refuses later =
-      let text : List Effect = Prints (behind (head_due setting old.commits) (shared_line [] (line.Refused (old.commits + 1)))) ∷ [] in
-      subst (λ (some : List Effect). ActsGo (Commit ∷ acts) old state rest (some ++ back) new) (sym refuses.0)
-      (one_more old state rest text (after_refusal old) state rest back new Commit acts Refusal
-      (record {
-        is = tt;
-        counted = refl;
-        text = of_refusal asked fault old.commits;
-        keeps = (tt, tt);
-        comes = refl;
-        made = refl;
-        counts = (let same : old.writes ≡ old.writes + 0 = omega arith in same);
-        within = λ small. (small, tt);
-      })
-      led
-      (subst (λ p. Later acts p back new) refuses.1 later state rest
-      (record { at = stands.at; size = stands.size; at_rest = stands.at_rest; unused = stands.unused; rules_told = stands.rules_told; told = tt; short = omega arith })))
+    refusal_led : (is : Verdict) → sets_by acts old is ≡ sets_through setting [] old.rules [] Nothing acts → pending_verdict setting pending ≡ is → LeadsOn pending Commit (after_refusal old) acts Refusal
+    refusal_led is none same =
+        let by : length (sets_through setting [] pending.rules pending.batch pending.asked (Commit ∷ acts)) ≡ length (sets_through setting [] old.rules [] Nothing acts) =
+        ap (λ (v : Verdict). length (sets_by acts old v)) same ∙ ap (λ (sets : List Led). length sets) none in
+        let more : length (sets_through setting [] old.rules [] Nothing acts) ≡ 0 + length (sets_through setting [] old.rules [] Nothing acts) = omega arith in
+        by ∙ more
 
-  judged_goes : (acts : List Act) (old : Progress) (state : State) (rest : Tracing) (is : Verdict) (front : List Effect) (mid : Progress) (back : List Effect) (new : Progress) → StandsIn setting device_slots old state
-      → verdict setting.slots setting.mode old.rules old.batch ≡ is → Judged Commits setting old is front mid → Later acts mid back new → ActsGo (Commit ∷ acts) old state rest (front ++ back) new
-  judged_goes acts old state rest Accepted front mid back new stands same step later = accepted_goes acts old state rest front mid back new stands same step later
-  judged_goes acts old state rest (Unsound why) front mid back new stands same step later = refused_goes acts old state rest (Unsound why) front mid back new stands (refusal_led acts old (Unsound why) refl same) step later
-  judged_goes acts old state rest (OutOfBits field needed free) front mid back new stands same step later = refused_goes acts old state rest (OutOfBits field needed free) front mid back new stands (refusal_led acts old (OutOfBits field needed free) refl same) step later
-  judged_goes acts old state rest (OutOfSlots needed free) front mid back new stands same step later = refused_goes acts old state rest (OutOfSlots needed free) front mid back new stands (refusal_led acts old (OutOfSlots needed free) refl same) step later
+    accepted_goes : pending_verdict setting pending ≡ Accepted → Commits setting old front mid → Goes
+    accepted_goes judged commits =
+        let settled_stands = stands_settled setting device_slots pending state few stands judged in
+        let accepted : verdict setting.slots setting.mode old.rules old.batch ≡ Accepted = accepted_settled setting pending stands.at_rest.is_set stands.at_rest.right few pending.asked judged in
+        let mid_state = state_after state commits.made in
+        let known = ended old state rest settled_stands accepted commits.made commits.segment commits.in_use in
+        let mid_rest : Tracing = record known { accepted = known.accepted + 1 } in
+        let actions = actions_for setting old commits.made in
+        let next = length (sets_through setting [] (set_after old.rules old.batch) [] Nothing acts) in
+        let by : length (sets_through setting [] pending.rules pending.batch pending.asked (Commit ∷ acts)) ≡ suc next = ap (λ (is : Verdict). length (sets_by acts old is)) judged in
+        let one : done_count (part_lines (old.commits + 1) (Work (map change_line old.batch) (map action_line actions))) ≡ 1 = done-commit old.batch actions (old.commits + 1) in
+        let led : LeadsOn pending Commit (after_segment setting old commits.made) acts (Work (map change_line old.batch) (map action_line actions)) = omega arith in
+        subst (λ (some : List Effect). ActsGo (Commit ∷ acts) pending state rest (some ++ back) new) (sym commits.effects_are)
+        (one_more pending state rest (carried setting old (actions_for setting old commits.made) ++ Prints (shared_line [] (line.Done (old.commits + 1))) ∷ []) (after_segment setting old commits.made) mid_state mid_rest back new Commit acts (Work (map change_line old.batch) (map action_line actions))
+        (of_settled _ pending state rest _ _ _ _ (commit_goes old state rest settled_stands accepted commits.made commits.segment commits.in_use)) led
+        (subst (λ p. Later acts p back new) commits.after later mid_state mid_rest (stands_behind setting device_slots old state commits.made settled_stands accepted commits.segment commits.in_use refl)))
+
+    refused_goes : (reason : Verdict) → LeadsOn pending Commit (after_refusal old) acts Refusal → Refuses setting old reason front mid → Goes
+    refused_goes reason led refuses =
+        subst (λ (some : List Effect). ActsGo (Commit ∷ acts) pending state rest (some ++ back) new) (sym refuses.0)
+        (one_more pending state rest (Prints (refusal_line setting old.commits reason) ∷ []) (after_refusal old) state rest back new Commit acts Refusal
+        (record {
+          is = tt;
+          counted = refl;
+          text = of_refusal asked fault old.commits;
+          keeps = (tt, tt);
+          comes = refl;
+          made = refl;
+          counts = (let same : old.writes ≡ old.writes + 0 = omega arith in same);
+          within = λ small. (small, tt);
+        })
+        led
+        (subst (λ p. Later acts p back new) refuses.1 later state rest
+        (record { at = stands.at; size = stands.size; at_rest = stands.at_rest; unused = stands.unused; rules_told = stands.rules_told; told = tt; asks_told = tt; short = omega arith })))
+
+    judged_goes : (is : Verdict) → pending_verdict setting pending ≡ is → Judged Commits setting old is front mid → Goes
+    judged_goes Accepted same step = accepted_goes same step
+    judged_goes (Unsound why) same step = refused_goes (Unsound why) (refusal_led (Unsound why) refl same) step
+    judged_goes (OutOfBits field needed free) same step = refused_goes (OutOfBits field needed free) (refusal_led (OutOfBits field needed free) refl same) step
+    judged_goes (OutOfSlots needed free) same step = refused_goes (OutOfSlots needed free) (refusal_led (OutOfSlots needed free) refl same) step
 
   -- behind a commit none is pending
-  none_pending : (old : Progress) (is : Verdict) (front : List Effect) (mid : Progress) → Judged Commits setting old is front mid → [] ≡ mid.batch
-  none_pending old Accepted front mid step = ap (λ (p : Progress). p.batch) (sym step.after)
-  none_pending old (Unsound why) front mid step = ap (λ (p : Progress). p.batch) (sym step.1)
-  none_pending old (OutOfBits field needed free) front mid step = ap (λ (p : Progress). p.batch) (sym step.1)
-  none_pending old (OutOfSlots needed free) front mid step = ap (λ (p : Progress). p.batch) (sym step.1)
+  none_pending : (old : Progress) (is : Verdict) (front : List Effect) (mid : Progress) → Judged Commits setting (settled_at old) is front mid → 0 ≡ changes_in mid.batch mid.asked
+  none_pending old Accepted front mid step = ap (λ (p : Progress). changes_in p.batch p.asked) (sym step.after)
+  none_pending old (Unsound why) front mid step = ap (λ (p : Progress). changes_in p.batch p.asked) (sym step.1)
+  none_pending old (OutOfBits field needed free) front mid step = ap (λ (p : Progress). changes_in p.batch p.asked) (sym step.1)
+  none_pending old (OutOfSlots needed free) front mid step = ap (λ (p : Progress). changes_in p.batch p.asked) (sym step.1)
 
-  pub acts_go : (acts : List Act) (old : Progress) (state : State) (rest : Tracing) (effects : List Effect) (new : Progress) → StandsIn setting device_slots old state
-      → AreTraceActs (family_version setting.family) (length old.batch) acts → Run setting old acts effects new → ActsGo acts old state rest effects new
+  -- a strict command more is told too,
+  with_told : (batch : List Change) (asked : Requested) (change : Change) → AllByRecursion (IsTraceChange (family_version setting.family)) batch → AllByRecursion (IsTraceChange (family_version setting.family)) (forms_of asked)
+      → IsTraceChange (family_version setting.family) change
+      → AllByRecursion (IsTraceChange (family_version setting.family)) (batch_with batch asked change) × AllByRecursion (IsTraceChange (family_version setting.family)) (forms_of (asked_with asked change))
+  with_told batch Nothing change told asks one = (all_append (IsTraceChange (family_version setting.family)) batch (change ∷ []) told (one, tt), tt)
+  with_told batch (Changes requests) change told asks one = (told, forms_more (family_version setting.family) requests (Strict change) asks one)
+  with_told batch (Whole requests) change told asks one = (told, forms_more (family_version setting.family) requests (Strict change) asks one)
+
+  -- and one that doesn't ask what is there
+  behind_told : (batch : List Change) (asked : Requested) (request : Request) → AllByRecursion (IsTraceChange (family_version setting.family)) batch → AllByRecursion (IsTraceChange (family_version setting.family)) (forms_of asked)
+      → IsTraceChange (family_version setting.family) (strict_form request)
+      → AllByRecursion (IsTraceChange (family_version setting.family)) (batch_behind batch asked) × AllByRecursion (IsTraceChange (family_version setting.family)) (forms_of (asked_behind batch asked request))
+  behind_told batch Nothing request told asks one =
+      (tt, forms_more (family_version setting.family) (map Strict batch) request (subst (AllByRecursion (IsTraceChange (family_version setting.family))) (sym (forms-strict batch)) told) one)
+  behind_told batch (Changes requests) request told asks one = (told, forms_more (family_version setting.family) requests request asks one)
+  behind_told batch (Whole requests) request told asks one = (told, forms_more (family_version setting.family) requests request asks one)
+
+  pub acts_go : (acts : List Act) (old : Progress) (state : State) (rest : Tracing) (effects : List Effect) (new : Progress) → StandsWith setting device_slots old state
+      → AreTraceActs (family_version setting.family) (changes_in old.batch old.asked) acts → Run setting old acts effects new → ActsGo acts old state rest effects new
   acts_go [] old state rest effects new stands told run =
       subst (λ (some : List Effect). ActsGo [] old state rest some new) (sym run.0) (subst (ActsGo [] old state rest []) (sym run.1) (none old state rest))
   acts_go (Command change ∷ acts) old state rest effects new stands told (front, mid, back, step, run, are) =
-      let size : length (old.batch ++ change ∷ []) ≡ length old.batch + 1 = length-append old.batch (change ∷ []) in
+      let size = more-with old.batch old.asked change in
       let less = told.1 in
-      let later = acts_go acts (record old { batch = old.batch ++ change ∷ [] }) state rest back new
-      (record {
-        at = stands.at;
-        size = stands.size;
-        at_rest = stands.at_rest;
-        unused = stands.unused;
-        rules_told = stands.rules_told;
-        told = all_append (IsTraceChange (family_version setting.family)) old.batch (change ∷ []) stands.told (told.0, tt);
-        short = omega arith;
-      })
+      let both = with_told old.batch old.asked change stands.told stands.asks_told told.0 in
+      let later = acts_go acts (record old { batch = batch_with old.batch old.asked change; asked = asked_with old.asked change }) state rest back new
+      (record { at = stands.at; size = stands.size; at_rest = stands.at_rest; unused = stands.unused; rules_told = stands.rules_told; told = both.0; asks_told = both.1; short = omega arith })
       (subst (λ n. AreTraceActs (family_version setting.family) n acts) (sym size) told.2) (subst (λ p. Run setting p acts back new) step.1 run) in
       subst (λ (some : List Effect). ActsGo (Command change ∷ acts) old state rest some new) (sym (are ∙ ap (λ some. some ++ back) step.0)) later
+  acts_go (Ask request ∷ acts) old state rest effects new stands told (front, mid, back, step, run, are) =
+      let size = more-behind old.batch old.asked request in
+      let less = told.1 in
+      let both = behind_told old.batch old.asked request stands.told stands.asks_told told.0 in
+      let later = acts_go acts (record old { batch = batch_behind old.batch old.asked; asked = asked_behind old.batch old.asked request }) state rest back new
+      (record { at = stands.at; size = stands.size; at_rest = stands.at_rest; unused = stands.unused; rules_told = stands.rules_told; told = both.0; asks_told = both.1; short = omega arith })
+      (subst (λ n. AreTraceActs (family_version setting.family) n acts) (sym size) told.2) (subst (λ p. Run setting p acts back new) step.1 run) in
+      subst (λ (some : List Effect). ActsGo (Ask request ∷ acts) old state rest some new) (sym (are ∙ ap (λ some. some ++ back) step.0)) later
+  acts_go (All ∷ acts) old state rest effects new stands told (front, mid, back, step, run, are) =
+      let later = acts_go acts (record old { batch = []; asked = Whole [] }) state rest back new
+      (record { at = stands.at; size = stands.size; at_rest = stands.at_rest; unused = stands.unused; rules_told = stands.rules_told; told = tt; asks_told = tt; short = omega arith }) told
+      (subst (λ p. Run setting p acts back new) step.1 run) in
+      subst (λ (some : List Effect). ActsGo (All ∷ acts) old state rest some new) (sym (are ∙ ap (λ some. some ++ back) step.0)) later
   acts_go (Probe key ∷ acts) old state rest effects new stands told (front, mid, back, step, run, are) =
       let later = acts_go acts (record old { probes = old.probes ++ key ∷ [] }) state rest back new
-      (record { at = stands.at; size = stands.size; at_rest = stands.at_rest; unused = stands.unused; rules_told = stands.rules_told; told = stands.told; short = stands.short }) told
+      (record { at = stands.at; size = stands.size; at_rest = stands.at_rest; unused = stands.unused; rules_told = stands.rules_told; told = stands.told; asks_told = stands.asks_told; short = stands.short }) told
       (subst (λ p. Run setting p acts back new) step.1 run) in
       subst (λ (some : List Effect). ActsGo (Probe key ∷ acts) old state rest some new) (sym (are ∙ ap (λ some. some ++ back) step.0)) later
   acts_go (Packet key ∷ acts) old state rest effects new stands told (front, mid, back, step, run, are) =
       let later = acts_go acts old state rest back new stands told (subst (λ p. Run setting p acts back new) step.1 run) in
       subst (λ (some : List Effect). ActsGo (Packet key ∷ acts) old state rest some new) (sym (are ∙ ap (λ some. some ++ back) step.0)) later
   acts_go (Commit ∷ acts) old state rest effects new stands told (front, mid, back, step, run, are) =
-      let is = verdict setting.slots setting.mode old.rules old.batch in
+      let is = pending_verdict setting old in
       subst (λ (some : List Effect). ActsGo (Commit ∷ acts) old state rest some new) (sym are)
-      (judged_goes acts old state rest is front mid back new stands refl step
+      (judged_goes acts old state rest front mid back new stands
       (λ mid_state mid_rest mid_stands.
-      acts_go acts mid mid_state mid_rest back new mid_stands (subst (λ (batch : List Change). AreTraceActs (family_version setting.family) (length batch) acts) (none_pending old is front mid step) told) run))
+      acts_go acts mid mid_state mid_rest back new mid_stands (subst (λ n. AreTraceActs (family_version setting.family) n acts) (none_pending old is front mid step) told) run)
+      is refl step)
   acts_go (Trial most ∷ acts) old state rest effects new stands told run = absurd told
   acts_go (Crash after ∷ acts) old state rest effects new stands told run = absurd told
 
@@ -371,11 +426,15 @@ pub few_commits : (asked : Setting) (acts : List Act) (pending : ℕ) (old : Pro
 few_commits asked [] pending old effects new told run = let same = ap (λ (p : Progress). p.commits) run.1 in omega arith
 few_commits asked (Command change ∷ acts) pending old effects new told (front, mid, back, step, run, are) =
     let same = ap (λ (p : Progress). p.commits) step.1 in let later = few_commits asked acts (pending + 1) mid back new told.2 run in omega arith
+few_commits asked (Ask request ∷ acts) pending old effects new told (front, mid, back, step, run, are) =
+    let same = ap (λ (p : Progress). p.commits) step.1 in let later = few_commits asked acts (pending + 1) mid back new told.2 run in omega arith
+few_commits asked (All ∷ acts) pending old effects new told (front, mid, back, step, run, are) =
+    let same = ap (λ (p : Progress). p.commits) step.1 in let later = few_commits asked acts 0 mid back new told run in omega arith
 few_commits asked (Probe key ∷ acts) pending old effects new told (front, mid, back, step, run, are) =
     let same = ap (λ (p : Progress). p.commits) step.1 in let later = few_commits asked acts pending mid back new told run in omega arith
 few_commits asked (Packet key ∷ acts) pending old effects new told (front, mid, back, step, run, are) =
     let same = ap (λ (p : Progress). p.commits) step.1 in let later = few_commits asked acts pending mid back new told run in omega arith
 few_commits asked (Commit ∷ acts) pending old effects new told (front, mid, back, step, run, are) =
-    let same = judged_commits asked old (verdict asked.slots asked.mode old.rules old.batch) front mid step in let later = few_commits asked acts 0 mid back new told run in omega arith
+    let same = judged_commits asked (settled_at old) (pending_verdict asked old) front mid step in let later = few_commits asked acts 0 mid back new told run in omega arith
 few_commits asked (Trial most ∷ acts) pending old effects new told run = absurd told
 few_commits asked (Crash after ∷ acts) pending old effects new told run = absurd told

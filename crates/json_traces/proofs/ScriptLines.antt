@@ -2,7 +2,8 @@
 use Rattle.std.proofs.Common.{◌≡◌, Bool, true, false, ℕ, List, Some, Ok, refl, subst}
 use Rattle.rule_model.specs.declared.IpVersion.{IpVersion}
 use Rattle.replay.specs.declared.Act.{Act}
-use Rattle.replay.specs.declared.Act.TheVariants.{Command, Probe, Packet, Commit, Trial, Crash}
+use Rattle.replay.specs.declared.Act.TheVariants.{Command, Ask, All, Probe, Packet, Commit, Trial, Crash}
+use Rattle.settled_changes.specs.Requested.{strict_form}
 use Rattle.replay.specs.Effects.{Setting}
 use Rattle.replay.specs.Running.{IsToldIn}
 use Rattle.report_lines.specs.Text.{family_version}
@@ -13,6 +14,8 @@ use Rattle.json_traces.proofs.TraceRules.{IsTraceChange}
 -- an act that a report in JSON tells of
 abbrev pub IsTraceAct : IpVersion → Act → Type 0
 IsTraceAct version (Command change) = IsTraceChange version change
+IsTraceAct version (Ask request) = IsTraceChange version (strict_form request)
+IsTraceAct version All = Unit {0}
 IsTraceAct version (Probe key) = Unit {0}
 IsTraceAct version (Packet key) = Unit {0}
 IsTraceAct version Commit = Unit {0}
@@ -21,6 +24,8 @@ IsTraceAct version (Crash after) = ⊥
 
 told_is : (version : IpVersion) (act : Act) → IsToldIn true version act → IsTraceAct version act
 told_is version (Command change) told = told refl
+told_is version (Ask request) told = told refl
+told_is version All told = tt
 told_is version (Probe key) told = tt
 told_is version (Packet key) told = tt
 told_is version Commit told = tt

@@ -9,9 +9,9 @@ use Rattle.script_lines.specs.declared.LineFault.{LineFault}
 use Rattle.script_lines.specs.declared.LineFault.TheVariants.{Read, ScriptTooLong, TooLong, BadByte}
 use Rattle.script_lines.proofs.FirstLines.{picks}
 use Rattle.replay.specs.declared.Act.{Act}
-use Rattle.replay.specs.declared.Act.TheVariants.{Command, Probe, Packet, Commit, Trial, Crash}
+use Rattle.replay.specs.declared.Act.TheVariants.{Command, Ask, All, Probe, Packet, Commit, Trial, Crash}
 use Rattle.script_runs.specs.Script.{ScriptEnd, Whole, FaultAt, stops_at, onto_acts, byte_end, acts_of}
-use Rattle.replay.specs.Script.{Script, Reading, most_probes, pending_after, probes_after, limit_fault, acts_from}
+use Rattle.replay.specs.Script.{Script, Reading, most_probes, pending_after, probes_after, full_fault, limit_fault, acts_from}
 use Rattle.rule_model.specs.declared.IpVersion.{IpVersion}
 use Rattle.json_traces.specs.Traces.{AreTraceActs}
 use Rattle.json_traces.specs.Reported.{IsPlainFault}
@@ -41,8 +41,8 @@ read_as reading pending probes number lines last r =
     ]
 
 -- there is room for one change more
-room : (pending : ℕ) → pending ≤ most_pending → (full : Bool) → (pending == most_pending) ≡ full → full ≡ false → pending < most_pending
-room pending within full tells none = let other : (pending == most_pending) ≡ false = tells ∙ none in grind (arith, nat_tests)
+room : (pending : ℕ) → pending ≤ most_pending → (full : Bool) → nat_le most_pending pending ≡ full → full ≡ false → pending < most_pending
+room pending within full tells none = let other : nat_le most_pending pending ≡ false = tells ∙ none in grind (arith, nat_tests)
 
 full_text : (full : Bool) (text : List ℕ) → ◌≡◌ {A = Option (List ℕ)} (elim full [ true ↦ Some text | false ↦ None ]) None → full ≡ false
 full_text true text none = absurd (cc)
@@ -51,8 +51,12 @@ full_text false text none = refl
 onto_told : (version : IpVersion) (pending probes : ℕ) (act : Act) (acts : List Act) → pending ≤ most_pending → IsTraceAct version act → limit_fault act pending probes ≡ None
     → ((most : pending_after act pending ≤ most_pending) → AreTraceActs version (pending_after act pending) acts) → AreTraceActs version pending (act ∷ acts)
 onto_told version pending probes (Command change) acts within is free more =
-    let less = room pending within (pending == most_pending) refl (full_text (pending == most_pending) (codes "batch full") free) in
+    let less = room pending within (nat_le most_pending pending) refl (full_text (nat_le most_pending pending) (codes "batch full") free) in
     (is, less, more (omega arith))
+onto_told version pending probes (Ask request) acts within is free more =
+    let less = room pending within (nat_le most_pending pending) refl (full_text (nat_le most_pending pending) (codes "batch full") free) in
+    (is, less, more (omega arith))
+onto_told version pending probes All acts within is free more = more (omega arith)
 onto_told version pending probes (Probe key) acts within is free more = more within
 onto_told version pending probes (Packet key) acts within is free more = more within
 onto_told version pending probes Commit acts within is free more = more (omega arith)
@@ -91,33 +95,42 @@ EndsPlainly (FaultAt number text) = (number < 2 ^ 32) × IsPlainFault text
 abbrev pub ReadsPlainly : Reading → Type 0
 ReadsPlainly reading = (line text : List ℕ) → reading line ≡ Err text → IsPlainFault text
 
-limit_plain : (act : Act) (pending probes : ℕ) (text : List ℕ) → IsPlainFault (codes "batch full") → IsPlainFault (codes "too many probes") → limit_fault act pending probes ≡ Some text → IsPlainFault text
-limit_plain (Command change) pending probes text batch many is = go (pending == most_pending) is
+full_plain : (pending : ℕ) (text : List ℕ) → IsPlainFault (codes "batch full") → full_fault pending ≡ Some text → IsPlainFault text
+full_plain pending text batch is = go (nat_le most_pending pending) is
   where
     go : (full : Bool) → ◌≡◌ {A = Option (List ℕ)} (elim full [ true ↦ Some (codes "batch full") | false ↦ None ]) (Some text) → IsPlainFault text
     go true some = subst IsPlainFault (let e : codes "batch full" ≡ text = cc in e) batch
     go false none = absurd (cc)
-limit_plain (Probe key) pending probes text batch many is = go (probes == most_probes) is
+
+limit_plain : (act : Act) (pending probes : ℕ) (text : List ℕ) → IsPlainFault (codes "batch full") → IsPlainFault (codes "changes pending") → IsPlainFault (codes "too many probes") → limit_fault act pending probes ≡ Some text → IsPlainFault text
+limit_plain (Command change) pending probes text batch whole many is = full_plain pending text batch is
+limit_plain (Ask request) pending probes text batch whole many is = full_plain pending text batch is
+limit_plain All pending probes text batch whole many is = go (pending == 0) is
+  where
+    go : (none : Bool) → ◌≡◌ {A = Option (List ℕ)} (elim none [ true ↦ None | false ↦ Some (codes "changes pending") ]) (Some text) → IsPlainFault text
+    go true none = absurd (cc)
+    go false some = subst IsPlainFault (let e : codes "changes pending" ≡ text = cc in e) whole
+limit_plain (Probe key) pending probes text batch whole many is = go (probes == most_probes) is
   where
     go : (full : Bool) → ◌≡◌ {A = Option (List ℕ)} (elim full [ true ↦ Some (codes "too many probes") | false ↦ None ]) (Some text) → IsPlainFault text
     go true some = subst IsPlainFault (let e : codes "too many probes" ≡ text = cc in e) many
     go false none = absurd (cc)
-limit_plain (Packet key) pending probes text batch many is = absurd (cc)
-limit_plain Commit pending probes text batch many is = absurd (cc)
-limit_plain (Trial most) pending probes text batch many is = absurd (cc)
-limit_plain (Crash after) pending probes text batch many is = absurd (cc)
+limit_plain (Packet key) pending probes text batch whole many is = absurd (cc)
+limit_plain Commit pending probes text batch whole many is = absurd (cc)
+limit_plain (Trial most) pending probes text batch whole many is = absurd (cc)
+limit_plain (Crash after) pending probes text batch whole many is = absurd (cc)
 
 -- numbers of lines are small
 abbrev pub AreNumbered : List NumberedLine → Type 0
 AreNumbered lines = AllByRecursion (λ (line : NumberedLine). line.number < 2 ^ 32) lines
 
-module _ (reading : Reading) (plain : ReadsPlainly reading) (batch : IsPlainFault (codes "batch full")) (many : IsPlainFault (codes "too many probes")) (last : LinesEnd) (ends : EndsPlainly (byte_end last)) where
+module _ (reading : Reading) (plain : ReadsPlainly reading) (batch : IsPlainFault (codes "batch full")) (whole : IsPlainFault (codes "changes pending")) (many : IsPlainFault (codes "too many probes")) (last : LinesEnd) (ends : EndsPlainly (byte_end last)) where
   abbrev Ends : List NumberedLine → Type 0
   Ends lines = (pending probes : ℕ) → EndsPlainly (acts_from reading pending probes lines last).last
 
   end_by_room : (line : NumberedLine) (lines : List NumberedLine) (pending probes : ℕ) (act : Act) (full : Option (List ℕ)) → limit_fault act pending probes ≡ full → line.number < 2 ^ 32 → Ends lines
       → EndsPlainly (limited line.number act (acts_from reading (pending_after act pending) (probes_after act probes) lines last) full).last
-  end_by_room line lines pending probes act (Some text) tells small later = (small, limit_plain act pending probes text batch many tells)
+  end_by_room line lines pending probes act (Some text) tells small later = (small, limit_plain act pending probes text batch whole many tells)
   end_by_room line lines pending probes act None tells small later = later (pending_after act pending) (probes_after act probes)
 
   end_by_reading : (line : NumberedLine) (lines : List NumberedLine) (pending probes : ℕ) (r : Result (Option Act) (List ℕ)) → reading line.text ≡ r → line.number < 2 ^ 32 → Ends lines

@@ -1,5 +1,5 @@
 -- Where a run stands between its commits: its set is at rest on the device, whose other slots are empty.
-use Rattle.std.proofs.Common.{◌≡◌, ℕ, ◌+◌, ◌-◌, ◌≤◌, List, [], ◌∷◌, ◌++◌, length, replicate, Contains, Option, None, refl, sym, ap, ◌∙◌, subst, arith}
+use Rattle.std.proofs.Common.{◌≡◌, ℕ, ◌+◌, ◌-◌, ◌≤◌, List, [], ◌∷◌, ◌++◌, length, replicate, Contains, Option, Some, None, refl, sym, ap, ◌∙◌, subst, arith}
 use Rattle.std.specs.List.{AllByRecursion}
 use Rattle.std.proofs.lemmas.List.{length-replicate, replicate-append-replicate}
 use Rattle.std.proofs.lemmas.Option.{none-some}
@@ -8,8 +8,9 @@ use Rattle.rule_model.specs.declared.IpVersion.{IpVersion}
 use Rattle.rule_model.specs.declared.words.Entry.{Entry}
 use Rattle.rule_store.specs.declared.Mode.{Mode}
 use Rattle.rule_store.specs.declared.Command.{Command as Change}
-use Rattle.rule_store.specs.Batch.{ChangesRules, most_pending}
-use Rattle.rule_store.specs.Verdict.{Accepted, verdict}
+use Rattle.rule_store.specs.Batch.{ChangesRules, most_commands, most_pending}
+use Rattle.rule_store.specs.declared.BatchFault.{BatchFault}
+use Rattle.rule_store.specs.Verdict.{Accepted, Verdict, room_verdict, verdict, verdict_by}
 use Rattle.tcam_device.specs.declared.Write.{Write}
 use Rattle.tcam_device.specs.State.{State, blank, IsInUse, on_device, state_after}
 use Rattle.tcam_device.specs.Order.{IsOrdered}
@@ -25,12 +26,28 @@ use Rattle.trace_file.specs.Forms.{IsTraceRule}
 use Rattle.readback.proofs.Accepted.{taken}
 use Rattle.trace_check.proofs.Ended.{segment_ended}
 use Rattle.replay.specs.Effects.{Setting}
-use Rattle.replay.specs.Run.{Progress, start, after_segment}
+use Rattle.slot_order.specs.Order.{most_slots}
+use Rattle.rule_model.specs.Rule.{HasConditions}
+use Rattle.rule_model.specs.RuleSet.{IsRuleSet}
+use Rattle.settled_changes.specs.Requests.{asked_set, requests_fault}
+use Rattle.settled_changes.specs.Settled.{settled, whole_requests}
+use Rattle.settled_changes.proofs.Forgiving.{whole-set}
+use Rattle.settled_changes.proofs.Leads.{leads}
+use Rattle.settled_changes.proofs.Many.{twice_as_many}
+use Rattle.settled_changes.proofs.OverNone.{whole_fits}
+use Rattle.settled_changes.proofs.At.{asked-set}
+use Rattle.batch_order.proofs.ids.Needed.{rules_entries}
+use Rattle.batch_order.proofs.planning.Judged.{accepted_room}
+use Rattle.settled_changes.specs.declared.requested.Requested.{Requested}
+use Rattle.settled_changes.specs.declared.requested.Requested.TheVariants.{Nothing, Changes, Whole}
+use Rattle.settled_changes.specs.Requested.{TakesAsked, changes_in, settled_batch, settled_verdict}
+use Rattle.replay.specs.Run.{Progress, start, after_segment, pending_verdict, settled_at}
 use Rattle.report_lines.specs.Text.{family_version}
+use Rattle.json_traces.proofs.SettledTold.{batch_told, forms_of}
 use Rattle.json_traces.proofs.TraceRules.{IsTraceChange, told_changes, set_told}
 
 -- The slots in use hold a state, and over a device of so many slots the run is at rest with it. Rules and changes are those
--- of a trace of the family's version, and no more changes are pending than may be.
+-- of a trace of the family's version, and no more changes are pending than a batch has room for.
 pub record StandsIn (setting : Setting) (device_slots : ℕ) (old : Progress) (state : State) : Type 0 where
   pub at : old.state ≡ on_device device_slots state
   pub size : length state.slots ≡ setting.slots
@@ -38,7 +55,19 @@ pub record StandsIn (setting : Setting) (device_slots : ℕ) (old : Progress) (s
   pub unused : HasUnused setting.slots old.state
   pub rules_told : AllByRecursion (IsTraceRule (family_version setting.family)) old.rules
   pub told : AllByRecursion (IsTraceChange (family_version setting.family)) old.batch
-  pub short : length old.batch ≤ most_pending
+  pub short : length old.batch ≤ most_commands
+
+-- Where acts stand between two commits: likewise, with what is asked for beside the batch. No more changes are pending than may
+-- wait.
+pub record StandsWith (setting : Setting) (device_slots : ℕ) (old : Progress) (state : State) : Type 0 where
+  pub at : old.state ≡ on_device device_slots state
+  pub size : length state.slots ≡ setting.slots
+  pub at_rest : IsAtRest setting.mode old.bits old.rules old.state
+  pub unused : HasUnused setting.slots old.state
+  pub rules_told : AllByRecursion (IsTraceRule (family_version setting.family)) old.rules
+  pub told : AllByRecursion (IsTraceChange (family_version setting.family)) old.batch
+  pub asks_told : AllByRecursion (IsTraceChange (family_version setting.family)) (forms_of old.asked)
+  pub short : changes_in old.batch old.asked ≤ most_pending
 
 -- the slots that aren't in use are blank too
 blank_wider : (slots device_slots : ℕ) → slots ≤ device_slots → blank device_slots ≡ on_device device_slots (blank slots)
@@ -68,7 +97,7 @@ blank_rest mode slots =
     }
 
 -- so it is before the first act
-pub stands_first : (setting : Setting) (device_slots : ℕ) → setting.slots ≤ device_slots → StandsIn setting device_slots (start device_slots) (blank setting.slots)
+pub stands_first : (setting : Setting) (device_slots : ℕ) → setting.slots ≤ device_slots → StandsWith setting device_slots (start device_slots) (blank setting.slots)
 stands_first setting device_slots wide = record {
   at = blank_wider setting.slots device_slots wide;
   size = length-replicate {A = Option Entry} setting.slots None;
@@ -76,6 +105,7 @@ stands_first setting device_slots wide = record {
   unused = λ at past. empty_slot device_slots at;
   rules_told = tt;
   told = tt;
+  asks_told = tt;
   short = omega arith;
 }
 
@@ -94,8 +124,8 @@ may_begin setting device_slots old state stands accepted =
 -- and behind its segment the run stands again
 pub stands_behind : (setting : Setting) (device_slots : ℕ) (old : Progress) (state : State) (made : List Write) → StandsIn setting device_slots old state
     → verdict setting.slots setting.mode old.rules old.batch ≡ Accepted → IsSegment setting.mode old.bits old.rules old.batch old.state made → AllByRecursion (IsInUse setting.slots) made
-    → StandsIn setting device_slots (after_segment setting old made) (state_after state made)
-stands_behind setting device_slots old state made stands accepted segment in_use =
+    → old.asked ≡ Nothing → StandsWith setting device_slots (after_segment setting old made) (state_after state made)
+stands_behind setting device_slots old state made stands accepted segment in_use plain =
     let may = may_begin setting device_slots old state stands accepted in
     let inside : AllByRecursion (IsInUse (length state.slots)) made = subst (λ n. AllByRecursion (IsInUse n) made) (sym stands.size) in_use in
     record {
@@ -105,5 +135,64 @@ stands_behind setting device_slots old state made stands accepted segment in_use
       unused = (segment_ended setting.slots setting.mode old.bits old.rules old.batch old.state made may segment stands.unused in_use).1.unused;
       rules_told = set_told (family_version setting.family) old.rules old.batch stands.rules_told stands.told;
       told = tt;
-      short = omega arith;
+      asks_told = subst (λ (asked : Requested). AllByRecursion (IsTraceChange (family_version setting.family)) (forms_of asked)) (sym plain) tt;
+      short = subst (λ (asked : Requested). changes_in [] asked ≤ most_pending) (sym plain) (omega arith);
     }
+
+-- ---- what is pending, once it is settled
+
+-- where it is accepted the set takes it, and there is room for its batch
+module _ (setting : Setting) (old : Progress) (set : IsRuleSet old.rules) (right : AllByRecursion HasConditions old.rules) (few_slots : setting.slots ≤ most_slots) where
+  -- no fault is found of what is accepted
+  no_fault : (found : Option BatchFault) (room : Verdict) → verdict_by found room ≡ Accepted → (found ≡ None) × (room ≡ Accepted)
+  no_fault None room accepted = (refl, accepted)
+  no_fault (Some fault) room accepted = absurd (cc)
+
+  pub accepted_taken : (asked : Requested) → settled_verdict setting.slots setting.mode old.rules old.batch asked ≡ Accepted → TakesAsked old.rules asked
+  accepted_taken Nothing accepted = tt
+  accepted_taken (Changes requests) accepted = (no_fault (requests_fault old.rules requests) _ accepted).0
+  accepted_taken (Whole requests) accepted = (no_fault (requests_fault [] requests) _ accepted).0
+
+  -- so the settled batch is accepted too
+  pub accepted_settled : (asked : Requested) → settled_verdict setting.slots setting.mode old.rules old.batch asked ≡ Accepted
+      → verdict setting.slots setting.mode old.rules (settled_batch old.rules old.batch asked) ≡ Accepted
+  accepted_settled Nothing accepted = accepted
+  accepted_settled (Changes requests) accepted =
+      let found = no_fault (requests_fault old.rules requests) _ accepted in
+      ap (λ fault. verdict_by fault (room_verdict setting.slots setting.mode old.rules (settled old.rules requests))) (leads old.rules requests set found.0).0 ∙ found.1
+  accepted_settled (Whole requests) accepted =
+      let found = no_fault (requests_fault [] requests) _ accepted in
+      let whole = asked_set [] requests in
+      let is_set : IsRuleSet whole = asked-set [] requests tt in
+      let sound = (leads old.rules (whole_requests old.rules whole) set (whole-set old.rules whole set is_set).0).0 in
+      ap (λ fault. verdict_by fault (room_verdict setting.slots setting.mode old.rules (settled old.rules (whole_requests old.rules whole)))) sound ∙ found.1
+
+  -- the rules are no more than the slots
+  rules_few : (batch : List Change) → verdict setting.slots setting.mode old.rules batch ≡ Accepted → length old.rules ≤ most_pending
+  rules_few batch accepted =
+      let fits = taken setting.slots setting.mode old.rules batch accepted in
+      let entries = (accepted_room setting.slots setting.mode old.rules batch fits.sound accepted).entries in
+      let fewer = rules_entries setting.mode old.rules right in
+      omega arith
+
+  pub settled_short : (asked : Requested) → changes_in old.batch asked ≤ most_pending → settled_verdict setting.slots setting.mode old.rules old.batch asked ≡ Accepted
+      → length (settled_batch old.rules old.batch asked) ≤ most_commands
+  settled_short Nothing short accepted = omega arith
+  settled_short (Changes requests) short accepted = let many = twice_as_many old.rules requests in omega arith
+  settled_short (Whole requests) short accepted =
+      whole_fits old.rules requests (asked_set [] requests) refl
+      (rules_few (settled_batch old.rules old.batch (Whole requests)) (accepted_settled (Whole requests) accepted)) short
+
+-- a run that stands so stands with its settled batch, where that is accepted
+pub stands_settled : (setting : Setting) (device_slots : ℕ) (old : Progress) (state : State) → setting.slots ≤ most_slots → StandsWith setting device_slots old state → pending_verdict setting old ≡ Accepted
+    → StandsIn setting device_slots (settled_at old) state
+stands_settled setting device_slots old state few stands accepted = record {
+  at = stands.at;
+  size = stands.size;
+  at_rest = stands.at_rest;
+  unused = stands.unused;
+  rules_told = stands.rules_told;
+  told = batch_told (family_version setting.family) old.rules old.batch old.asked stands.rules_told stands.told stands.asks_told
+      (accepted_taken setting old stands.at_rest.is_set stands.at_rest.right few old.asked accepted);
+  short = settled_short setting old stands.at_rest.is_set stands.at_rest.right few old.asked stands.short accepted;
+}

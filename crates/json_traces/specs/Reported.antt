@@ -1,5 +1,5 @@
 -- What is told of the trace that a report is.
-use Rattle.std.specs.Prelude.{◌≡◌, ℕ, ◌≤◌, IsTrue, List, length}
+use Rattle.std.specs.Prelude.{ℕ, ◌≤◌, IsTrue, List, length}
 use Rattle.std.specs.List.{AllByRecursion}
 use Rattle.script_lines.specs.Reader.{is_of_line}
 use Rattle.tcam_device.specs.declared.Write.{Write}

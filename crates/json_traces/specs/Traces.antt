@@ -13,8 +13,10 @@ use Rattle.json_text.specs.JsonText.{json_line}
 use Rattle.trace_check.specs.Hitless.{commits_of, trace_writes}
 use Rattle.trace_check.specs.Orderly.{IsTrace, IsOrderly}
 use Rattle.replay.specs.declared.Act.{Act}
-use Rattle.replay.specs.declared.Act.TheVariants.{Command, Probe, Packet, Commit, Trial, Crash}
+use Rattle.replay.specs.declared.Act.TheVariants.{Command, Ask, All, Probe, Packet, Commit, Trial, Crash}
 use Rattle.replay.specs.Effects.{Setting, Effect, journal_of, printed}
+use Rattle.settled_changes.specs.declared.requested.Requested.TheVariants.{Nothing}
+use Rattle.settled_changes.specs.Requested.{strict_form}
 use Rattle.replay.specs.JsonLines.{change_line}
 use Rattle.replay.specs.Reports.{fault_told}
 use Rattle.report_lines.specs.Text.{family_version}
@@ -42,10 +44,13 @@ pub record IsOrderlyReport (fault report : List ℕ) (commits : ℕ) (made : Lis
   pub writes_are : trace_writes lines ≡ made
 
 -- Acts that a report in JSON tells of, behind so many pending changes: no trial and no crash, changes of rules of this
--- version, and no more of them than may be pending.
+-- version, strict or asked for, and no more of them than may be pending.
 abbrev pub AreTraceActs : IpVersion → ℕ → List Act → Type 0
 AreTraceActs version pending [] = Unit {0}
 AreTraceActs version pending (Command change ∷ acts) = IsTraceLineOf version (change_line change) × (pending < most_pending) × AreTraceActs version (pending + 1) acts
+AreTraceActs version pending (Ask request ∷ acts) =
+    IsTraceLineOf version (change_line (strict_form request)) × (pending < most_pending) × AreTraceActs version (pending + 1) acts
+AreTraceActs version pending (All ∷ acts) = AreTraceActs version 0 acts
 AreTraceActs version pending (Probe key ∷ acts) = AreTraceActs version pending acts
 AreTraceActs version pending (Packet key ∷ acts) = AreTraceActs version pending acts
 AreTraceActs version pending (Commit ∷ acts) = AreTraceActs version 0 acts
@@ -61,7 +66,7 @@ pub record WantsTrace (setting : Setting) (device_slots : ℕ) : Type 0 where
 
 -- how many commits of some acts are accepted, by the rule lists alone: each leads to one set more
 abbrev pub accepted_in : Setting → List Act → ℕ
-accepted_in setting acts = length (sets_through setting [] [] [] acts) - 1
+accepted_in setting acts = length (sets_through setting [] [] [] Nothing acts) - 1
 
 -- Where all acts are carried out the report is an orderly trace, whose writes are those of the journal: with the line that
 -- tells of the end of the acts, and with one that tells of a fault.

@@ -1,8 +1,8 @@
 -- What a run comes to where its commit crashes, and what is left of it then.
 use Rattle.std.specs.Prelude.{◌≡◌, ◌⊎◌, ℕ, ◌+◌, ◌<◌, ◌++◌, Bool, true, false, IsSome, IfSome, Result, Ok, Err, List, [], length}
-use Rattle.tcam_device.specs.Flight.{Flight}
+use Rattle.tcam_device.specs.Flight.{Flight, writes_in}
 use Rattle.commit_writes.specs.InFlight.{AreCurrent}
-use Rattle.batch_order.specs.Managed.{Managed, fresh, live_now, writes_due}
+use Rattle.batch_order.specs.Managed.{Managed, fresh, live_now}
 use Rattle.replay.specs.declared.Act.{Act}
 use Rattle.replay.specs.declared.RunFault.{RunFault}
 use Rattle.replay.specs.declared.RunFault.TheVariants as fault
@@ -16,7 +16,7 @@ use Rattle.replay.specs.Outside.{Outside}
 
 -- the commit under way has more writes than so many, those included that were made
 abbrev pub HasMoreThan : ℕ → Running → Type 0
-HasMoreThan after run = IfSome run.manager.held (λ held. after < run.told + length (writes_due held))
+HasMoreThan after run = IfSome run.manager.held (λ held. after < run.told + length (writes_in held.actions))
 
 -- A commit is where it crashes: so many writes were made, and it has more.
 pub record IsAtCrash (after : ℕ) (run : Running) : Type 0 where

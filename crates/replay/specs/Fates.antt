@@ -3,11 +3,11 @@ use Rattle.std.specs.Prelude.{◌≡◌, ℕ, ◌-◌, ◌<◌, ◌≤◌, ◌++
 use Rattle.tcam_device.specs.declared.Action.{Action}
 use Rattle.tcam_device.specs.Flight.{writes_in}
 use Rattle.commit_writes.specs.Actions.{up_to_writes}
-use Rattle.batch_order.specs.Managed.{HeldCommit, writes_due}
+use Rattle.batch_order.specs.Managed.{HeldCommit}
 use Rattle.replay.specs.declared.Act.{Act}
-use Rattle.replay.specs.declared.Act.TheVariants.{Command, Probe, Packet, Commit, Trial, Crash}
+use Rattle.replay.specs.declared.Act.TheVariants.{Command, Ask, All, Probe, Packet, Commit, Trial, Crash}
 use Rattle.replay.specs.declared.ActFault.{ActFault}
-use Rattle.replay.specs.declared.ActFault.TheVariants.{BatchFull, ProbesFull, Held, Stopped}
+use Rattle.replay.specs.declared.ActFault.TheVariants.{BatchFull, ChangesPending, ProbesFull, Held, Stopped}
 use Rattle.replay.specs.declared.RunFault.TheVariants as fault
 use Rattle.replay.specs.declared.fate.Fate.{Fate}
 use Rattle.replay.specs.declared.fate.Fate.TheVariants.{ToTheEnd, BackAfter, CrashAfter, RestartedAfter}
@@ -22,6 +22,8 @@ commit_act (RestartedAfter after) = Crash after
 -- an act that crashes
 abbrev pub IsCrash : Act → Type 0
 IsCrash (Command change) = ⊥
+IsCrash (Ask request) = ⊥
+IsCrash All = ⊥
 IsCrash (Probe key) = ⊥
 IsCrash (Packet key) = ⊥
 IsCrash Commit = ⊥
@@ -74,7 +76,7 @@ IsWithinCrash stop told = IfSome stop (λ after. told ≤ after)
 abbrev pub crash_due : Option ℕ → ℕ → Option HeldCommit → Bool
 crash_due None told held = false
 crash_due (Some after) told None = false
-crash_due (Some after) told (Some held) = nat_le after told && nat_lt 0 (length (writes_due held))
+crash_due (Some after) told (Some held) = nat_le after told && nat_lt 0 (length (writes_in held.actions))
 
 -- What an answer says of whether a call may follow: none may behind a failure of the sink, and perhaps none where a commit
 -- that crashed found no memory.
@@ -84,6 +86,7 @@ AnswersBroken act (Err (Stopped fault.Sink)) broken = broken ≡ true
 AnswersBroken act (Err (Stopped fault.Device)) broken = broken ≡ false
 AnswersBroken act (Err (Stopped fault.Memory)) broken = broken ≡ true → IsCrash act
 AnswersBroken act (Err BatchFull) broken = broken ≡ false
+AnswersBroken act (Err ChangesPending) broken = broken ≡ false
 AnswersBroken act (Err ProbesFull) broken = broken ≡ false
 AnswersBroken act (Err (Held left)) broken = broken ≡ false
 

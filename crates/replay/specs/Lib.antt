@@ -2,6 +2,7 @@ pub mod Text
 pub mod JsonLines
 pub mod Effects
 pub mod Reports
+pub mod AskedRoutes
 pub mod Run
 pub mod Script
 pub mod Outside

@@ -6,12 +6,13 @@ use Rattle.rule_model.specs.declared.Rule.{Rule}
 use Rattle.rule_model.specs.RuleSet.{answer}
 use Rattle.rule_store.specs.declared.Command.{Command as Change}
 use Rattle.rule_store.specs.Batch.{set_after}
-use Rattle.rule_store.specs.Verdict.{Verdict, Accepted, Unsound, OutOfBits, OutOfSlots, verdict, entries_of}
+use Rattle.rule_store.specs.Verdict.{Verdict, Accepted, Unsound, OutOfBits, OutOfSlots, entries_of}
 use Rattle.tcam_device.specs.declared.Write.{Write}
 use Rattle.tcam_device.specs.declared.Action.{Action}
 use Rattle.tcam_device.specs.State.{State, blank, IsInUse, state_after}
 use Rattle.tcam_device.specs.Flight.{writes_in}
 use Rattle.tcam_device.specs.Insertion.{Insertion, insertions, IsUncrossed}
+use Rattle.commit_writes.specs.Proposal.{proposal}
 use Rattle.commit_writes.specs.declared.Done.{Done}
 use Rattle.commit_writes.specs.Actions.{back_from, commit_actions, up_to_writes, with_drain}
 use Rattle.commit_writes.specs.Bits.{FieldBits, no_bits, bits_with, bits_left}
@@ -24,16 +25,20 @@ use Rattle.script_runs.specs.Runs as runs
 use Rattle.report_lines.specs.declared.Family.{Family}
 use Rattle.report_lines.specs.declared.Family.TheVariants.{Route, Acl, Route6, Acl6}
 use Rattle.replay.specs.declared.Act.{Act}
-use Rattle.replay.specs.declared.Act.TheVariants.{Command, Probe, Packet, Commit, Trial, Crash}
+use Rattle.replay.specs.declared.Act.TheVariants.{Command, Ask, All, Probe, Packet, Commit, Trial, Crash}
+use Rattle.settled_changes.specs.declared.requested.Requested.{Requested}
+use Rattle.settled_changes.specs.declared.requested.Requested.TheVariants.{Nothing, Changes, Whole}
+use Rattle.settled_changes.specs.Requested.{asked_behind, asked_with, batch_behind, batch_with, changes_in, settled_batch, settled_verdict}
 use Rattle.replay.specs.Effects.{Setting, Effect, Prints, effects_of, flushed, probes_told, waiting_after}
 use Rattle.replay.specs.Reports.{done_line, end_told, opened, packet_told, refusal_line}
 use Rattle.replay.specs.Text.{aborted_line, restarted_line}
 
--- where a run stands: set, pending batch, probes, live ranges, device, commits, writes, and whether a commit was
--- refused
+-- where a run stands: set, pending batch, what is asked for beside it, probes, live ranges, device, commits, writes, and
+-- whether a commit was refused
 pub record Progress : Type 0 where
   pub rules : List Rule
   pub batch : List Change
+  pub asked : Requested
   pub probes : List Key
   pub bits : FieldBits
   pub state : State
@@ -47,6 +52,7 @@ start slots =
     record {
       rules = [];
       batch = [];
+      asked = Nothing;
       probes = [];
       bits = no_bits;
       state = blank slots;
@@ -182,7 +188,7 @@ pub record Restarts (setting : Setting) (old : Progress) (after : ℕ) (effects 
   pub is_twin : IsTwinSlot (crash_state old after made).slots twin
   pub rest : List Write
   pub goes_on : GoesOn setting.slots setting.mode old.bits old.rules old.batch (crash_state old after made) left twin rest
-  pub placed : (device_slots : ℕ) × IsRestPlacedBy setting.placement device_slots setting.mode old.bits old.rules old.batch (used_slots setting (crash_state old after made)) done left twin rest
+  pub placed : (device_slots : ℕ) × IsRestPlacedBy setting.placement device_slots (proposal setting.mode old.bits old.rules old.batch) (used_slots setting (crash_state old after made)) done left twin rest
   pub of_family : RestOfFamily setting.family (rest_insertions goes_on.shape)
   pub in_use : AllByRecursion (IsInUse setting.slots) rest
   pub effects_are : effects ≡ carried setting old (actions_over setting old after made rest) ++ Prints (restarted_line (old.commits + 1) after (after + length rest)) ∷ []
@@ -205,18 +211,31 @@ Judged Does setting old (Unsound fault) effects new = Refuses setting old (Unsou
 Judged Does setting old (OutOfBits field needed free) effects new = Refuses setting old (OutOfBits field needed free) effects new
 Judged Does setting old (OutOfSlots needed free) effects new = Refuses setting old (OutOfSlots needed free) effects new
 
+-- where a commit of what is pending stands: it is settled to a batch of strict commands
+abbrev pub settled_at : Progress → Progress
+settled_at old = record old { batch = settled_batch old.rules old.batch old.asked; asked = Nothing }
+
+-- the verdict on what is pending
+abbrev pub pending_verdict : Setting → Progress → Verdict
+pending_verdict setting old = settled_verdict setting.slots setting.mode old.rules old.batch old.asked
+
+-- a commit is judged by that, and does what one of the settled batch does
+abbrev pub Settles : (Setting → Progress → List Effect → Progress → Type 0) → Setting → Progress → List Effect → Progress → Type 0
+Settles Does setting old effects new = Judged Does setting (settled_at old) (pending_verdict setting old) effects new
+
 -- From where the run stands, an act has these effects, and the run stands there.
 abbrev pub HasEffects : Setting → Progress → Act → List Effect → Progress → Type 0
-HasEffects setting old (Command change) effects new = (effects ≡ []) × (new ≡ record old { batch = old.batch ++ change ∷ [] })
+HasEffects setting old (Command change) effects new =
+    (effects ≡ []) × (new ≡ record old { batch = batch_with old.batch old.asked change; asked = asked_with old.asked change })
+HasEffects setting old (Ask request) effects new =
+    (effects ≡ []) × (new ≡ record old { batch = batch_behind old.batch old.asked; asked = asked_behind old.batch old.asked request })
+HasEffects setting old All effects new = (effects ≡ []) × (new ≡ record old { batch = []; asked = Whole [] })
 HasEffects setting old (Probe key) effects new = (effects ≡ []) × (new ≡ record old { probes = old.probes ++ key ∷ [] })
 HasEffects setting old (Packet key) effects new =
     (effects ≡ packet_told setting (answer old.rules key)) × (new ≡ old)
-HasEffects setting old Commit effects new =
-    Judged Commits setting old (verdict setting.slots setting.mode old.rules old.batch) effects new
-HasEffects setting old (Trial most) effects new =
-    Judged (Tries most) setting old (verdict setting.slots setting.mode old.rules old.batch) effects new
-HasEffects setting old (Crash after) effects new =
-    Judged (Crashes after) setting old (verdict setting.slots setting.mode old.rules old.batch) effects new
+HasEffects setting old Commit effects new = Settles Commits setting old effects new
+HasEffects setting old (Trial most) effects new = Settles (Tries most) setting old effects new
+HasEffects setting old (Crash after) effects new = Settles (Crashes after) setting old effects new
 
 -- An act is cut before an effect that is due, in all that it does: these are its effects before that.
 pub record IsCutInStep (setting : Setting) (before : Progress) (act : Act) (effects : List Effect) (due : Effect) : Type 0 where
@@ -228,11 +247,11 @@ pub record IsCutInStep (setting : Setting) (before : Progress) (act : Act) (effe
 pub record IsCutBeforeCrash (setting : Setting) (before : Progress) (act : Act) (effects : List Effect) (due : Effect) : Type 0 where
   pub after : ℕ
   pub act_is : act ≡ Crash after
-  pub accepted : verdict setting.slots setting.mode before.rules before.batch ≡ Accepted
+  pub accepted : pending_verdict setting before ≡ Accepted
   pub made : List Write
-  pub crash : CrashesIn setting before after made
+  pub crash : CrashesIn setting (settled_at before) after made
   pub back : List Effect
-  pub parts : carried_so_far setting before (actions_before setting before after made) ≡ effects ++ due ∷ back
+  pub parts : carried_so_far setting (settled_at before) (actions_before setting (settled_at before) after made) ≡ effects ++ due ∷ back
 
 -- An act that is cut, either way.
 abbrev pub IsCutStep : Setting → Progress → Act → List Effect → Effect → Type 0
@@ -246,22 +265,28 @@ pub record StopsAtCrash (setting : Setting) (before : Progress) (after : ℕ) (e
   pub crash : CrashesIn setting before after made
   pub effects_are : effects ≡ carried_so_far setting before (actions_before setting before after made)
 
--- an accepted commit takes memory before it does anything
-abbrev pub TakesAtOnce : Setting → Progress → List Effect → Type 0
-TakesAtOnce setting before effects =
-    (verdict setting.slots setting.mode before.rules before.batch ≡ Accepted) × (effects ≡ [])
+-- What a commit takes memory for before it does anything: a strict batch that is accepted, and whatever is to be settled.
+abbrev pub MayWant : Setting → Progress → Requested → Type 0
+MayWant setting before Nothing = pending_verdict setting before ≡ Accepted
+MayWant setting before (Changes requests) = Unit {0}
+MayWant setting before (Whole requests) = Unit {0}
 
--- An act takes memory when it has had these effects: a change, or a commit that is accepted, before any, and one that
--- crashes once more then.
+abbrev pub TakesAtOnce : Setting → Progress → List Effect → Type 0
+TakesAtOnce setting before effects = MayWant setting before before.asked × (effects ≡ [])
+
+-- An act takes memory when it has had these effects: a change, or a commit that is accepted or to be settled, before any, and
+-- one that crashes once more then.
 abbrev pub TakesMemory : Setting → Progress → Act → List Effect → Type 0
 TakesMemory setting before (Command change) effects = effects ≡ []
+TakesMemory setting before (Ask request) effects = effects ≡ []
+TakesMemory setting before All effects = ⊥
 TakesMemory setting before (Probe key) effects = ⊥
 TakesMemory setting before (Packet key) effects = ⊥
 TakesMemory setting before Commit effects = TakesAtOnce setting before effects
 TakesMemory setting before (Trial most) effects = TakesAtOnce setting before effects
 TakesMemory setting before (Crash after) effects =
-    (verdict setting.slots setting.mode before.rules before.batch ≡ Accepted)
-    × ((effects ≡ []) ⊎ StopsAtCrash setting before after effects)
+    TakesAtOnce setting before effects
+    ⊎ ((pending_verdict setting before ≡ Accepted) × StopsAtCrash setting (settled_at before) after effects)
 
 -- the acts one after the other
 abbrev pub Run : Setting → Progress → List Act → List Effect → Progress → Type 0
@@ -274,4 +299,4 @@ Runs setting device_slots acts effects last = Run setting (start device_slots) a
 -- the last line of a run that came to the end of its acts
 abbrev pub ending : Setting → Progress → List ℕ
 ending setting progress =
-    end_told setting progress.commits (length progress.rules) (entries_of setting.mode progress.rules) progress.writes (length progress.batch)
+    end_told setting progress.commits (length progress.rules) (entries_of setting.mode progress.rules) progress.writes (changes_in progress.batch progress.asked)

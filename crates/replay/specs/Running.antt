@@ -19,12 +19,17 @@ use Rattle.commit_writes.specs.Routes.{IsRoute}
 use Rattle.commit_writes.specs.Actions.{commit_actions, up_to_writes}
 use Rattle.commit_writes.specs.Undo.{undo_writes}
 use Rattle.batch_order.specs.declared.Placement.{Placement}
-use Rattle.batch_order.specs.Managed.{Managed, HeldCommit, Holds, OnlyChangesRoutes, fresh, writes_due}
-use Rattle.batch_order.specs.Steps.{next_of}
+use Rattle.batch_order.specs.Managed.{Managed, HeldCommit, Holds, OnlyChangesRoutes, Way, fresh}
+use Rattle.batch_order.specs.Managed.Way.{On, Back}
+use Rattle.batch_order.specs.Steps.{next_of, going_back}
 use Rattle.readback.specs.declared.Parts.{Parts}
 use Rattle.batch_order.specs.Restart.{ArePartsOf, Resumes}
 use Rattle.replay.specs.declared.Act.{Act}
-use Rattle.replay.specs.declared.Act.TheVariants.{Command, Probe, Packet, Commit, Trial, Crash}
+use Rattle.replay.specs.declared.Act.TheVariants.{Command, Ask, All, Probe, Packet, Commit, Trial, Crash}
+use Rattle.settled_changes.specs.declared.requested.Requested.{Requested}
+use Rattle.settled_changes.specs.declared.requested.Requested.TheVariants.{Nothing}
+use Rattle.settled_changes.specs.Requested.{strict_form}
+use Rattle.replay.specs.AskedRoutes.{OnlyAsksRoutes}
 use Rattle.replay.specs.declared.watch.Count.{Count}
 use Rattle.replay.specs.declared.fate.Fate.{Fate}
 use Rattle.replay.specs.declared.fate.Fate.TheVariants.{ToTheEnd, BackAfter, CrashAfter, RestartedAfter}
@@ -41,7 +46,7 @@ use Rattle.replay.specs.Text.{aborted_line, restarted_line}
 use Rattle.replay.specs.Run.{Progress}
 use Rattle.replay.specs.Fates.{IsBefore, IsFirst, IsWithinCrash, crash_of, most_of}
 use Rattle.replay.specs.declared.ActFault.{ActFault}
-use Rattle.replay.specs.declared.ActFault.TheVariants.{BatchFull, ProbesFull, Held, Stopped}
+use Rattle.replay.specs.declared.ActFault.TheVariants.{BatchFull, ChangesPending, ProbesFull, Held, Stopped}
 use Rattle.replay.specs.declared.RunFault.{RunFault}
 use Rattle.replay.specs.declared.RunFault.TheVariants.{Sink, Device, Memory}
 use Rattle.replay.specs.Carried.{IsAt, Carries, CutsAtLine, CutsAtWrite, CutsEffects, Wants}
@@ -56,9 +61,9 @@ pub record Watching : Type 0 where
   pub json : Bool
   pub probes : List Key
 
--- The manager, what is told of each write, the pending batch, and what the report counts; how many writes of an
--- unfinished commit were made, each of them told, of how many of these the probes' words are in flight, and what becomes
--- of it; and whether no call may follow.
+-- The manager, what is told of each write, the pending batch, what is asked for beside it, and what the report counts;
+-- how many writes of an unfinished commit were made, each of them told, of how many of these the probes' words are in
+-- flight, and what becomes of it; and whether no call may follow.
 pub record Running : Type 0 where
   pub manager : Managed
   pub family : Family
@@ -67,6 +72,7 @@ pub record Running : Type 0 where
   pub json : Bool
   pub probes : List Key
   pub pending : List Change
+  pub asked : Requested
   pub commits : ℕ
   pub writes : ℕ
   pub refused : Bool
@@ -98,6 +104,7 @@ progress_of device_slots run =
     record {
       rules = run.manager.rules;
       batch = run.pending;
+      asked = run.asked;
       probes = run.probes;
       bits = run.manager.bits;
       state = on_device device_slots run.manager.state;
@@ -117,6 +124,7 @@ begun slots mode placement family trace depth json =
       json = json;
       probes = [];
       pending = [];
+      asked = Nothing;
       commits = 0;
       writes = 0;
       refused = false;
@@ -150,29 +158,29 @@ trial_left more state actions undo =
     front ++ map Written (undo_writes state (writes_in front) ++ undo)
 
 -- Whether a commit is taken back: it is turned round, or it is a trial that has more writes than it may make.
-abbrev pub turns_back : Option ℕ → Option ℕ → List Action → Bool
-turns_back (Some undone) rest actions = true
-turns_back None None actions = false
-turns_back None (Some more) actions = nat_lt more (length (writes_in actions))
+abbrev pub turns_back : Way → Option ℕ → List Action → Bool
+turns_back (Back undone) rest actions = true
+turns_back (On undo) None actions = false
+turns_back (On undo) (Some more) actions = nat_lt more (length (writes_in actions))
 
 abbrev pub goes_back : Option ℕ → HeldCommit → Bool
-goes_back rest held = turns_back held.turned rest held.actions
+goes_back rest held = turns_back held.way rest held.actions
 
 -- the actions that are left of it, on the way there and on the way back
-abbrev pub left_in : Option ℕ → Option ℕ → State → List Action → List Write → List Action
-left_in (Some undone) rest state actions undo = map Written undo
-left_in None None state actions undo = actions
-left_in None (Some more) state actions undo =
+abbrev pub left_in : Way → Option ℕ → State → List Action → List Action
+left_in (Back undone) rest state actions = actions
+left_in (On undo) None state actions = actions
+left_in (On undo) (Some more) state actions =
     elim (nat_lt more (length (writes_in actions))) [ true ↦ trial_left more state actions undo | false ↦ actions ]
 
 abbrev pub actions_left : Option ℕ → State → HeldCommit → List Action
-actions_left rest state held = left_in held.turned rest state held.actions held.undo
+actions_left rest state held = left_in held.way rest state held.actions
 
 -- a commit that isn't turned round is, where it is time
-abbrev pub turned_back : Managed → HeldCommit → Option ℕ → Bool → Managed
-turned_back old held (Some undone) due = old
-turned_back old held None false = old
-turned_back old held None true = record old { held = Some (record held { turned = Some (length held.undo) }) }
+abbrev pub turned_back : Managed → HeldCommit → Way → Bool → Managed
+turned_back old held (Back undone) due = old
+turned_back old held (On undo) false = old
+turned_back old held (On undo) true = record old { held = Some (going_back held undo) }
 
 -- a trial is of a commit that can be taken back
 abbrev pub MayTurnBack : Option ℕ → Option HeldCommit → Type 0
@@ -184,7 +192,7 @@ abbrev pub TurnsBackAt : Option ℕ → ℕ → Managed → Option HeldCommit �
 TurnsBackAt None told old held new = new ≡ old
 TurnsBackAt (Some limit) told old None new = new ≡ old
 TurnsBackAt (Some limit) told old (Some held) new =
-    new ≡ turned_back old held held.turned (nat_le limit told && nat_lt 0 (length (writes_in held.actions)))
+    new ≡ turned_back old held held.way (nat_le limit told && nat_lt 0 (length (writes_in held.actions)))
 
 -- the commit is the same, and is taken back where it was to be
 pub record IsSame (rest rest_now : Option ℕ) (held now : HeldCommit) : Type 0 where
@@ -207,11 +215,13 @@ pub record MakesSome (most : Option ℕ) (told : ℕ) (begun now : Managed) : Ty
   pub left_is : actions_left (trial_rest most (told + length (writes_in made))) now.state one ≡ left
   pub same : IsSame (trial_rest most told) (trial_rest most (told + length (writes_in made))) held one
 
--- A commit is unfinished: it was accepted, some of its writes were made, and the rest of them is held. Where it crashes
+-- A commit is unfinished: what was asked for is settled, it was accepted, some of its writes were made, and the rest of them is
+-- held. Where it crashes
 -- it has not come further.
 pub record IsHalfway (run : Running) : Type 0 where
   pub begun : Managed
   pub first : IsFirst run.fate
+  pub plain : run.asked ≡ Nothing
   pub holds : HoldsPending (record run { manager = begun })
   pub accepted : verdict_of (record run { manager = begun }) ≡ Accepted
   pub shows : ShowsRules (record begun { held = None })
@@ -230,6 +240,7 @@ first_actions run begun made after = up_to_writes after (commit_actions begun.mo
 pub record IsOnward (device_slots : ℕ) (run : Running) : Type 0 where
   pub after : ℕ
   pub fate_is : run.fate ≡ RestartedAfter after
+  pub plain : run.asked ≡ Nothing
   pub begun : Managed
   pub holds : HoldsPending (record run { manager = begun })
   pub accepted : verdict_of (record run { manager = begun }) ≡ Accepted
@@ -258,6 +269,7 @@ routes_of V6 = Route6
 -- the pending changes are changes of such routes. A commit under way is that of the pending batch.
 pub record IsRun (run : Running) : Type 0 where
   pub changes : (version : IpVersion) → run.family ≡ routes_of version → OnlyChangesRoutes version run.pending
+  pub asks : (version : IpVersion) → run.family ≡ routes_of version → OnlyAsksRoutes version run.asked
   pub routes : (version : IpVersion) → run.family ≡ routes_of version → AllByRecursion (IsRoute version) run.manager.rules
   pub some_slots : 1 ≤ run.manager.slots
   pub most_slots : run.manager.slots ≤ most_slots
@@ -277,16 +289,20 @@ IsChangeOf Acl6 change = Unit {0}
 -- an act of a script of the family
 abbrev pub IsActOf : Family → Act → Type 0
 IsActOf family (Command change) = IsChangeOf family change
+IsActOf family (Ask request) = IsChangeOf family (strict_form request)
+IsActOf family All = Unit {0}
 IsActOf family (Probe key) = Unit {0}
 IsActOf family (Packet key) = Unit {0}
 IsActOf family Commit = Unit {0}
 IsActOf family (Trial most) = Unit {0}
 IsActOf family (Crash after) = Unit {0}
 
--- An act that a report can tell. In JSON a command is one of a trace of this version, whose numbers are within their limits,
--- and there is no line for a trial and for a crash.
+-- An act that a report can tell. In JSON a command, and what a request asks for, is one of a trace of this version, whose
+-- numbers are within their limits, and there is no line for a trial and for a crash.
 abbrev pub IsToldIn : Bool → IpVersion → Act → Type 0
 IsToldIn json version (Command change) = json ≡ true → IsTraceLineOf version (change_line change)
+IsToldIn json version (Ask request) = json ≡ true → IsTraceLineOf version (change_line (strict_form request))
+IsToldIn json version All = Unit {0}
 IsToldIn json version (Probe key) = Unit {0}
 IsToldIn json version (Packet key) = Unit {0}
 IsToldIn json version Commit = Unit {0}
@@ -328,6 +344,8 @@ ComesTo device_slots old act new (Err (Stopped Memory)) events_old events_new ta
     ]
 ComesTo device_slots old act new (Err BatchFull) events_old events_new taken_old taken_new =
     NothingIsDone old new events_old events_new taken_old taken_new
+ComesTo device_slots old act new (Err ChangesPending) events_old events_new taken_old taken_new =
+    NothingIsDone old new events_old events_new taken_old taken_new
 ComesTo device_slots old act new (Err ProbesFull) events_old events_new taken_old taken_new =
     NothingIsDone old new events_old events_new taken_old taken_new
 ComesTo device_slots old act new (Err (Held left)) events_old events_new taken_old taken_new =
@@ -344,12 +362,13 @@ LeavesWords new (Err (Stopped Sink)) flight_old flight_new = Unit {0}
 LeavesWords new (Err (Stopped Device)) flight_old flight_new = AreLeft new flight_new
 LeavesWords new (Err (Stopped Memory)) flight_old flight_new = new.broken ≡ false → flight_new ≡ flight_old
 LeavesWords new (Err BatchFull) flight_old flight_new = flight_new ≡ flight_old
+LeavesWords new (Err ChangesPending) flight_old flight_new = flight_new ≡ flight_old
 LeavesWords new (Err ProbesFull) flight_old flight_new = flight_new ≡ flight_old
 LeavesWords new (Err (Held left)) flight_old flight_new = flight_new ≡ flight_old
 
 -- An act is taken only while no commit is unfinished. Else the answer has the number of the writes that are left.
 abbrev pub AnswersHeld : Option HeldCommit → Result (Unit {0}) ActFault → Type 0
-AnswersHeld (Some held) result = result ≡ Err (Held (length (writes_due held)))
+AnswersHeld (Some held) result = result ≡ Err (Held (length (writes_in held.actions)))
 AnswersHeld None result = (left : ℕ) → result ≢ Err (Held left)
 
 -- the sink failed
@@ -359,13 +378,16 @@ sink_failed (Err (Stopped Sink)) = true
 sink_failed (Err (Stopped Device)) = false
 sink_failed (Err (Stopped Memory)) = false
 sink_failed (Err BatchFull) = false
+sink_failed (Err ChangesPending) = false
 sink_failed (Err ProbesFull) = false
 sink_failed (Err (Held left)) = false
 
--- The text of an answer that an act isn't taken, in a script whose commits come to their end: that there is no room.
+-- The text of an answer that an act isn't taken, in a script whose commits come to their end: that there is no room, or that
+-- changes are pending.
 abbrev pub limit_text : Result (Unit {0}) ActFault → Option (List ℕ)
 limit_text (Ok done) = None
 limit_text (Err BatchFull) = Some (codes "batch full")
+limit_text (Err ChangesPending) = Some (codes "changes pending")
 limit_text (Err ProbesFull) = Some (codes "too many probes")
 limit_text (Err (Held left)) = Some (codes "a commit is unfinished")
 limit_text (Err (Stopped why)) = None

@@ -9,7 +9,7 @@ use Rattle.commit_writes.specs.InFlight.{AreCurrent}
 use Rattle.batch_order.specs.Managed.{live_now}
 use Rattle.batch_order.specs.Steps.{next_of}
 use Rattle.replay.specs.declared.Act.{Act}
-use Rattle.replay.specs.declared.Act.TheVariants.{Command, Probe, Packet, Commit, Trial, Crash}
+use Rattle.replay.specs.declared.Act.TheVariants.{Command, Ask, All, Probe, Packet, Commit, Trial, Crash}
 use Rattle.replay.specs.declared.RunFault.{RunFault}
 use Rattle.replay.specs.declared.RunFault.TheVariants.{Sink, Device, Memory}
 use Rattle.replay.specs.Effects.{Setting, Effect, Acts, Prints}
@@ -75,6 +75,8 @@ StaysInStep device_slots old new events_old events_new flight_old flight_new =
 -- an act that crashes takes memory when it has had its effects up to its crash
 abbrev pub TakesAtCrash : Setting → Progress → Act → List Effect → Type 0
 TakesAtCrash setting before (Command change) effects = ⊥
+TakesAtCrash setting before (Ask request) effects = ⊥
+TakesAtCrash setting before All effects = ⊥
 TakesAtCrash setting before (Probe key) effects = ⊥
 TakesAtCrash setting before (Packet key) effects = ⊥
 TakesAtCrash setting before Commit effects = ⊥

@@ -13,9 +13,10 @@
 //! it crashes. A write that fails is tried again at once, [`TRIES`] times in all.
 //!
 //! # How it stands
-//! `run` has the acts, `carrying` a commit from its first write to its line, `fate` what becomes of it, `steps` its
-//! loop, `watch` what is told after a write, `telling` what is told before the first write and at the end, `report` the
-//! lines, made of the words of `report_lines`, and `json_report` those in JSON. Each line goes to the sink, with its line
+//! `run` has the acts, `joining` how changes join what is pending, `committing` how that is settled and judged, `carrying` a
+//! commit from its first write to its line, `fate` what becomes of it, `steps` its loop, `watch` what is told after a
+//! write, `telling` what is told before the first write and at the end, `report` the lines, made of the words of
+//! `report_lines`, and `json_report` those in JSON. Each line goes to the sink, with its line
 //! feed, before the next effect. `laws` has what packets see over a crash.
 //!
 //! # What it cost
@@ -38,6 +39,14 @@
 //! # Decided
 //! - **A run stands at a value**, `progress_of`, that its manager, its pending batch and its counts give for a device
 //!   of so many slots; clauses of `apply` speak of it under the premise that the device is there.
+//! - **A batch is of strict commands until the first forgiving change** (`Requested`), so that each clause on a script of strict
+//!   commands is the one that it was. From then on its changes are requests, and a commit settles them over the set, before
+//!   it is judged, into a batch of strict commands that leads where they say (`settled_changes`). What is judged,
+//!   carried out, told and held is that batch alone (`settled_at` in `specs/Run`), so no definition of a commit knows of
+//!   requests. For want of memory the requests wait as before; once the batch is taken they are gone, and a run whose device
+//!   failed goes on with the settled batch. `all` begins a whole new set: what the changes behind it make of no rules. It is
+//!   taken only where nothing is pending, since else it would be unclear which changes belong to the set; and a commit right
+//!   behind it empties the table, as it says.
 //! - **A packet's line is the set's answer**, and no clause says who was asked. The run asks the device, which holds
 //!   the manager's writes and so answers the same (`rules` of the manager).
 //! - **`trial K` is turned round before the step that would be too much** (`turn_round`): right behind write `K`, where
@@ -105,7 +114,9 @@
 #![tactic(auto)]
 
 mod carrying;
+mod committing;
 mod fate;
+mod joining;
 mod json_report;
 mod laws;
 mod report;
@@ -121,6 +132,7 @@ pub use report_lines::{Family, write_fault, write_text};
 use rule_model::Key;
 use rule_store::Command;
 pub use run::Run;
+use settled_changes::Request;
 use std::alloc::AllocError;
 use thiserror::Error;
 
@@ -131,8 +143,12 @@ pub const TRIES: u32 = 4;
 /// What one line of a script does.
 #[derive(Clone, Copy, Debug, PartialEq, Eq)]
 pub enum Act {
-    /// A change joins the pending batch.
+    /// A strict change joins the pending batch.
     Command(Command),
+    /// A change that doesn't ask what is there joins the pending batch, which is settled over the set from then on.
+    Ask(Request),
+    /// The changes from here to the commit make the whole new set.
+    All,
     /// A key is looked up after each later write of a commit.
     Probe(Key),
     /// A packet is looked up.
@@ -151,6 +167,9 @@ pub enum ActFault {
     /// 4,096 changes are pending. Nothing has changed.
     #[error("batch full")]
     BatchFull,
+    /// A whole new set can't be begun while changes are pending. Nothing has changed.
+    #[error("changes pending")]
+    ChangesPending,
     /// 16 keys are probed. Nothing has changed.
     #[error("too many probes")]
     ProbesFull,

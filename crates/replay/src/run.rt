@@ -1,33 +1,33 @@
 //! A run of acts over one device.
 
-ghost use Rattle.std.specs.Prelude.{Bool, true, false, ◌≡◌, ◌≢◌, ◌⊎◌, ◌+◌, ◌<◌, ◌≤◌, ◌^◌, ◌++◌, ◌∷◌, ◌||◌, [], ℕ, List, Ok, Err, None, IsSome, IfOk, IfErr, OnOk, OnErr, length};
+ghost use Rattle.std.specs.Prelude.{Bool, false, ◌≡◌, ◌≢◌, ◌⊎◌, ◌+◌, ◌<◌, ◌≤◌, ◌^◌, ◌++◌, ◌∷◌, ◌||◌, [], ℕ, List, Ok, Err, None, IsSome, IfOk, IfErr, OnOk, OnErr, length};
 ghost use Rattle.script_lines.specs.Given.{counted};
 ghost use Rattle.call_history.specs.Cause.{HasCause};
 ghost use Rattle.commit_writes.specs.InFlight.{AreCurrent};
 ghost use Rattle.batch_order.specs.CarriedOut.{HasRoomBothWays};
 ghost use Rattle.batch_order.specs.Managed.{live_now};
-ghost use Rattle.report_lines.specs.Told.{verdict_told};
 ghost use Rattle.report_lines.specs.Text.{family_version};
 ghost use Rattle.replay.specs.Effects.{Effect};
-ghost use Rattle.replay.specs.Reports.{refusal_line};
-ghost use Rattle.replay.specs.Run.{Progress, ending};
+ghost use Rattle.settled_changes.specs.Requested.{changes_in};
+ghost use Rattle.replay.specs.Run.{Progress, ending, settled_at};
 ghost use Rattle.replay.specs.Script.{limit_fault};
 ghost use Rattle.report_lines.specs.Outside.{WritesLine};
 ghost use Rattle.replay.specs.Outside.{Leaves, outside};
 ghost use Rattle.replay.specs.Carried.{IsAt};
 ghost use Rattle.replay.specs.Crashing.{memory_wanted};
-ghost use Rattle.replay.specs.Fates.{AnswersBroken, AnswersLost, IsCrash, IsFirst, IsToCrash, commit_act};
-ghost use Rattle.replay.specs.Running.{act_outcome_of, AnswersHeld, AreLeft, ComesTo, NothingIsDone, LeavesWords, sink_failed, begun, limit_text, progress_of, setting_of, IsActOf, IsChangeOf, IsToldIn};
+ghost use Rattle.replay.specs.Fates.{AnswersBroken, AnswersLost, IsCrash, IsToCrash, commit_act};
+ghost use Rattle.replay.specs.Running.{act_outcome_of, AnswersHeld, AreLeft, ComesTo, NothingIsDone, LeavesWords, sink_failed, begun, limit_text, progress_of, setting_of, IsActOf, IsToldIn};
 ghost use Rattle.replay.specs.Unfinished.{IsUnfinished, ResumesTo, StaysInStep, StaysUnfinished};
 
 use crate::fate::Fate;
 use crate::report::write_packet;
 use crate::watch::{Count, NOTHING, Watch};
 use crate::{Act, ActFault, Family, RunFault};
-use batch_order::{Manager, Mode, Placement, Refusal, Rejection};
+use batch_order::{Manager, Mode, Placement};
 use rule_model::{Key, key_fields};
-use rule_store::{Batch, Command, PushFault};
+use rule_store::Batch;
 use script_lines::{Failed, Sink};
+use settled_changes::Requested;
 use slot_order::MOST_SLOTS;
 use std::alloc::{AllocError, Global};
 use std::marker::Model;
@@ -40,9 +40,11 @@ pub struct Run {
     pub(crate) manager: Manager,
     pub(crate) watch: Watch,
     pub(crate) pending: Batch,
+    /// What is asked for beside strict commands alone.
+    pub(crate) asked: Requested,
     pub(crate) commits: u32,
     pub(crate) writes: u64,
-    refused: bool,
+    pub(crate) refused: bool,
     /// How far the unfinished commit has come, 0 and 0 where none is unfinished.
     pub(crate) count: Count,
     /// What becomes of the unfinished commit.
@@ -56,9 +58,9 @@ impl Model for Run {
 
     ghost Value = { Running };
 
-    ghost view = { λ r. record { manager = r.manager; family = r.watch.family; trace = r.watch.trace; depth = r.watch.depth; json = r.watch.json; probes = r.watch.probes; pending = r.pending; commits = r.commits; writes = r.writes; refused = r.refused; told = r.count.told; waiting = r.count.waiting; fate = r.fate; broken = r.broken } };
+    ghost view = { λ r. record { manager = r.manager; family = r.watch.family; trace = r.watch.trace; depth = r.watch.depth; json = r.watch.json; probes = r.watch.probes; pending = r.pending; asked = r.asked; commits = r.commits; writes = r.writes; refused = r.refused; told = r.count.told; waiting = r.count.waiting; fate = r.fate; broken = r.broken } };
 
-    ghost invariant = { λ r. IsRun (record { manager = r.manager; family = r.watch.family; trace = r.watch.trace; depth = r.watch.depth; json = r.watch.json; probes = r.watch.probes; pending = r.pending; commits = r.commits; writes = r.writes; refused = r.refused; told = r.count.told; waiting = r.count.waiting; fate = r.fate; broken = r.broken }) };
+    ghost invariant = { λ r. IsRun (record { manager = r.manager; family = r.watch.family; trace = r.watch.trace; depth = r.watch.depth; json = r.watch.json; probes = r.watch.probes; pending = r.pending; asked = r.asked; commits = r.commits; writes = r.writes; refused = r.refused; told = r.count.told; waiting = r.count.waiting; fate = r.fate; broken = r.broken }) };
 }
 
 impl Run {
@@ -89,6 +91,7 @@ impl Run {
             manager: Manager::new(alloc, slots, mode, placement)?,
             watch: Watch::new(alloc, family, trace, depth, json)?,
             pending: Batch::new(alloc),
+            asked: Requested::Nothing,
             commits: 0,
             writes: 0,
             refused: false,
@@ -127,7 +130,13 @@ impl Run {
     /// 16,777,216 commits.
     ///
     /// A change joins the pending batch. With 4,096 changes pending the answer is `BatchFull`, and nothing has
-    /// changed. A probe is looked up after each later write. With 16 probes the answer is `ProbesFull`, and nothing has
+    /// changed. One that doesn't ask what is there has the batch settled over the set at its commit, to a batch of
+    /// strict commands that leads where its changes say, one after the other, so that of several of these the last counts;
+    /// where a strict change and such a one name the same rule, the commit is refused by the later of the two. `All` has the
+    /// changes from there to the commit make the whole new set, what they make of no rules, and a commit right behind it
+    /// leaves none. With changes pending the answer to it is `ChangesPending`, and nothing has changed.
+    ///
+    /// A probe is looked up after each later write. With 16 probes the answer is `ProbesFull`, and nothing has
     /// changed. A packet's line is what the set answers; the device is asked, which holds the run's writes and so
     /// answers the same.
     ///
@@ -139,9 +148,9 @@ impl Run {
     /// and the commit's line is written, with its numbers. Either is counted, and drops the batch.
     ///
     /// `Held` comes exactly where a commit is unfinished after `Device`, before any other answer, with the writes that
-    /// are left; nothing has changed. `Memory` comes at a change, or at a commit that would be accepted. Nothing was
-    /// done then, and the run is as before, unless it came at a crash, as below. `Sink` comes exactly where the sink's
-    /// count of failures rose: all that comes before the line was done, and a part of the line was taken, perhaps none
+    /// are left; nothing has changed. `Memory` comes at a change, or at a commit that would be accepted or is to be
+    /// settled. Nothing was done then, and the run is as before, unless it came at a crash, as below. `Sink` comes
+    /// exactly where the sink's count of failures rose: all that comes before the line was done, and a part of the line was taken, perhaps none
     /// or all of it. No call may follow it. `Device` comes where one write failed four times, and the device's count of
     /// failures rose by that: the writes of the commit before the failed one were made and told, and its line wasn't
     /// written. The rest of it is held, and `resume` goes on with it. A write that fails less often is made, once, and
@@ -176,10 +185,10 @@ impl Run {
         ensures acts { (which : Bool) → ComesTo (D.view device.old).slots self.old act.now self.new result
             (D.view device.old).events (D.view device.new).events (counted which (K.taken sink.old) (K.accepted sink.old)) (counted which (K.taken sink.new) (K.accepted sink.new)) }
         ensures held { AnswersHeld self.old.manager.held result }
-        ensures limit { self.old.manager.held ≡ None → limit_text result ≡ limit_fault act.now (length self.old.pending) (length self.old.probes) }
+        ensures limit { self.old.manager.held ≡ None → limit_text result ≡ limit_fault act.now (changes_in self.old.pending self.old.asked) (length self.old.probes) }
         ensures idle { OnOk result (self.new.manager.held ≡ None) }
         ensures unfinished { (which : Bool) → result ≡ Err (ActFault.Stopped RunFault.Device) → IsAt (D.view device.old).slots (D.view device.old).events (progress_of (D.view device.old).slots self.old)
-            → StaysUnfinished (D.view device.old).slots (progress_of (D.view device.old).slots self.old) act.now [] self.new
+            → StaysUnfinished (D.view device.old).slots (settled_at (progress_of (D.view device.old).slots self.old)) act.now [] self.new
             (outside (D.view device.old).events (counted which (K.taken sink.old) (K.accepted sink.old)))
             (outside (D.view device.new).events (counted which (K.taken sink.new) (K.accepted sink.new))) (D.view device.new).flight }
         ensures broken { AnswersBroken act.now result self.new.broken }
@@ -270,10 +279,10 @@ impl Run {
         ensures acts { (which : Bool) → ComesTo (D.view device.old).slots self.old act.now self.new result
             (D.view device.old).events (D.view device.new).events (counted which (K.taken sink.old) (K.accepted sink.old)) (counted which (K.taken sink.new) (K.accepted sink.new)) }
         ensures taken { AnswersHeld None result }
-        ensures limit { limit_text result ≡ limit_fault act.now (length self.old.pending) (length self.old.probes) }
+        ensures limit { limit_text result ≡ limit_fault act.now (changes_in self.old.pending self.old.asked) (length self.old.probes) }
         ensures idle { OnOk result (self.new.manager.held ≡ None) }
         ensures unfinished { (which : Bool) → result ≡ Err (ActFault.Stopped RunFault.Device) → IsAt (D.view device.old).slots (D.view device.old).events (progress_of (D.view device.old).slots self.old)
-            → StaysUnfinished (D.view device.old).slots (progress_of (D.view device.old).slots self.old) act.now [] self.new
+            → StaysUnfinished (D.view device.old).slots (settled_at (progress_of (D.view device.old).slots self.old)) act.now [] self.new
             (outside (D.view device.old).events (counted which (K.taken sink.old) (K.accepted sink.old)))
             (outside (D.view device.new).events (counted which (K.taken sink.new) (K.accepted sink.new))) (D.view device.new).flight }
         ensures broken { AnswersLost act.now result self.new.broken }
@@ -286,27 +295,13 @@ impl Run {
     {
         match *act {
             Act::Command(command) => self.push(command),
+            Act::Ask(request) => self.ask(request),
+            Act::All => self.begin_whole(),
             Act::Probe(key) => self.probe(key),
             Act::Packet(key) => self.packet(&key, sink, device),
             Act::Commit => self.commit(Fate::ToTheEnd, sink, device),
             Act::Trial(most) => self.commit(Fate::BackAfter(most), sink, device),
             Act::Crash(after) => self.commit(Fate::CrashAfter(after), sink, device),
-        }
-    }
-
-    // A change joins the pending batch.
-    fn push(&mut self, command: Command) -> Result<(), ActFault>
-        requires change { IsChangeOf self.old.family command }
-        requires idle { self.old.manager.held ≡ None }
-        ensures pushed { OnOk result (self.new ≡ record self.old { pending = self.old.pending ++ command ∷ [] }) }
-        ensures limit { limit_text result ≡ limit_fault (Act.Command command) (length self.old.pending) (length self.old.probes) }
-        ensures unchanged { OnErr result (self.new ≡ self.old) }
-        ensures kind { IfErr result (λ fault. (fault ≡ ActFault.BatchFull) ⊎ (fault ≡ ActFault.Stopped RunFault.Memory)) }
-    {
-        match self.pending.push(command) {
-            Ok(()) => Ok(()),
-            Err(PushFault::Full) => Err(ActFault::BatchFull),
-            Err(PushFault::Memory) => Err(ActFault::Stopped(RunFault::Memory)),
         }
     }
 
@@ -350,67 +345,6 @@ impl Run {
         }
     }
 
-    // Commits the pending batch, which is empty afterwards unless memory was wanting, and has this become of it.
-    fn commit<K: Sink, D: ReadBack>(
-        &mut self,
-        fate: Fate,
-        sink: &mut K,
-        device: &mut D,
-    ) -> Result<(), ActFault>
-        requires slots { self.old.manager.slots ≤ (D.view device.old).slots }
-        requires none_in_flight { (D.view device.old).flight ≡ [] }
-        requires idle { self.old.manager.held ≡ None }
-        requires first { IsFirst fate }
-        requires told { self.old.json ≡ true → fate ≡ Fate.ToTheEnd }
-        requires whole { self.old.broken ≡ false }
-        requires stands { IsToCrash fate → IsAt (D.view device.old).slots (D.view device.old).events (progress_of (D.view device.old).slots self.old) }
-        requires commits { self.old.commits < 2 ^ 24 }
-        ensures acts { (which : Bool) → ComesTo (D.view device.old).slots self.old (commit_act fate) self.new result
-            (D.view device.old).events (D.view device.new).events (counted which (K.taken sink.old) (K.accepted sink.old)) (counted which (K.taken sink.new) (K.accepted sink.new)) }
-        ensures taken { AnswersHeld None result }
-        ensures limit { limit_text result ≡ None }
-        ensures idle { OnOk result (self.new.manager.held ≡ None) }
-        ensures unfinished { (which : Bool) → result ≡ Err (ActFault.Stopped RunFault.Device) → IsAt (D.view device.old).slots (D.view device.old).events (progress_of (D.view device.old).slots self.old)
-            → StaysUnfinished (D.view device.old).slots (progress_of (D.view device.old).slots self.old) (commit_act fate) [] self.new
-            (outside (D.view device.old).events (counted which (K.taken sink.old) (K.accepted sink.old)))
-            (outside (D.view device.new).events (counted which (K.taken sink.new) (K.accepted sink.new))) (D.view device.new).flight }
-        ensures broken { AnswersLost (commit_act fate) result self.new.broken }
-        ensures room { HasRoomBothWays self.new.manager.held (D.view device.new).spare }
-        ensures setting { setting_of self.new ≡ setting_of self.old }
-        ensures commits { self.new.commits ≤ self.old.commits + 1 }
-        ensures in_flight { LeavesWords self.new result (D.view device.old).flight (D.view device.new).flight }
-        ensures in_step { result ≢ Err (ActFault.Stopped RunFault.Sink) → StaysInStep (D.view device.old).slots self.old self.new (D.view device.old).events (D.view device.new).events (D.view device.old).flight (D.view device.new).flight }
-        ensures leaves { Leaves K.taken K.faults sink.old sink.new (D.view device.old) (D.view device.new) (result ≡ Err (ActFault.Stopped RunFault.Sink)) (result ≡ Err (ActFault.Stopped RunFault.Device)) }
-    {
-        match self.manager.prepare(&self.pending, device) {
-            Ok(_) => {
-                self.fate = fate;
-                act_outcome(&self.begin(sink, device))
-            }
-            Err(Refusal::Memory) => Err(ActFault::Stopped(RunFault::Memory)),
-            Err(Refusal::Rejected(rejection)) => self.refuse(rejection, sink),
-            // No commit is unfinished.
-            Err(Refusal::Busy { .. }) => unreachable!(),
-        }
-    }
-
-    // Counts a commit that is refused, drops its batch, and writes its line.
-    fn refuse<K: Sink>(&mut self, rejection: Rejection, sink: &mut K) -> Result<(), ActFault>
-        requires idle { self.old.manager.held ≡ None }
-        requires commits { self.old.commits < 2 ^ 24 }
-        ensures refused { self.new ≡ record self.old { pending = []; commits = self.old.commits + 1; refused = true } }
-        ensures line { WritesLine K.taken K.accepted K.faults sink.old sink.new (refusal_line (setting_of self.old) self.old.commits (verdict_told rejection)) result }
-        ensures kind { IfErr result (λ fault. fault ≡ ActFault.Stopped RunFault.Sink) }
-    {
-        let told = self.tell_refused(&rejection, sink);
-        self.count_commit();
-        self.refused = true;
-        match told {
-            Ok(()) => Ok(()),
-            Err(Failed) => Err(ActFault::Stopped(RunFault::Sink)),
-        }
-    }
-
     /// Writes the last line of a run that came to its end: the rules of the set, their entries, the device writes of
     /// its commits, none of which is unfinished, and the changes that are pending. Answers whether a commit was
     /// refused. Where the sink fails, a part of the line was taken, perhaps none or all of it. The run stays as it was.
@@ -428,8 +362,8 @@ impl Run {
     }
 }
 
-// What an act answers whose commit comes to this.
-fn act_outcome(outcome: &Result<(), RunFault>) -> Result<(), ActFault>
+/// What an act answers whose commit comes to this.
+pub(crate) fn act_outcome(outcome: &Result<(), RunFault>) -> Result<(), ActFault>
     ensures { result ≡ act_outcome_of outcome.now }
 {
     match *outcome {

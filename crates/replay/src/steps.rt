@@ -1,6 +1,6 @@
 //! The commit under way, action by action: its writes, its drain, and what is told of each.
 
-ghost use Rattle.std.specs.Prelude.{⊤, ℕ, ◌≡◌, ◌≢◌, ◌+◌, ◌<◌, ◌≤◌, ◌^◌, ◌++◌, ◌∷◌, [], Bool, Err, None, IsSome, IsTrue, IfOk, IfSome, OnOk, OnErr, length, min};
+ghost use Rattle.std.specs.Prelude.{⊤, ℕ, ◌≡◌, ◌≢◌, ◌+◌, ◌<◌, ◌≤◌, ◌^◌, ◌++◌, ◌∷◌, [], Bool, false, Err, None, IsSome, IsTrue, IfOk, IfSome, OnOk, OnErr, length, min};
 ghost use Rattle.std.specs.List.{AllByRecursion};
 ghost use Rattle.script_lines.specs.Given.{counted};
 ghost use Rattle.rule_model.specs.Key.{IsKey};
@@ -9,7 +9,7 @@ ghost use Rattle.tcam_device.specs.declared.Action.TheVariants as Action;
 ghost use Rattle.tcam_device.specs.View.{HasMade, IsSameButFlight, IsUntouched, device_state, journal};
 ghost use Rattle.batch_order.specs.CarriedOut.{HasRoomBothWays, IsTried};
 ghost use Rattle.batch_order.specs.Managed.{IsOn, live_now};
-ghost use Rattle.batch_order.specs.Steps.{KeepsCurrent, ServesNow, Steps, actions_of, awaits_drain, next_of};
+ghost use Rattle.batch_order.specs.Steps.{KeepsCurrent, ServesNow, Steps, actions_of, awaits_drain, is_back, next_of};
 ghost use Rattle.replay.specs.Effects.{drain_told, probes_told, write_told};
 ghost use Rattle.replay.specs.InFlight.{AreOf, IsSeen, flight_left, found_after};
 ghost use Rattle.replay.specs.Outside.{Leaves, WritesLines, outside};
@@ -83,7 +83,7 @@ pub(crate) fn make_up_to<K: Sink, D: Device>(
     requires slots { manager.old.slots ≤ (D.view device.old).slots }
     requires in_flight { AreOf (probes_told watch.now.json watch.now.probes) count.old.waiting (D.view device.old).flight }
     requires waiting { count.old.waiting ≤ watch.now.depth }
-    requires forward { IfSome manager.old.held (λ held. held.turned ≡ None) }
+    requires forward { IfSome manager.old.held (λ held. is_back held.way ≡ false) }
     requires held { IsSome manager.old.held }
     requires room { HasRoomBothWays manager.old.held (D.view device.old).spare }
     requires told { count.old.told ≤ after }
@@ -122,7 +122,7 @@ fn make_until<K: Sink, D: Device>(
     requires waiting { count.old.waiting ≤ watch.now.depth }
     requires held { IsSome manager.old.held }
     requires may_turn { MayTurnBack most manager.old.held }
-    requires forward { IsSome stop → (most ≡ None) × IfSome manager.old.held (λ held. held.turned ≡ None) }
+    requires forward { IsSome stop → (most ≡ None) × IfSome manager.old.held (λ held. is_back held.way ≡ false) }
     requires told { IsWithinCrash stop count.old.told }
     requires room { HasRoomBothWays manager.old.held (D.view device.old).spare }
     requires few { IfSome manager.old.held (λ held. count.old.told + length (writes_in (actions_left (trial_rest most count.old.told) manager.old.state held)) ≤ 2 ^ 40) }
@@ -184,6 +184,7 @@ fn stops_here(manager: &Manager, stop: Option<u32>, told: u64) -> bool
 }
 
 // Turns a trial round that has made as many writes as it may, and has more to make.
+#[tactic(auto, using(crate::proofs::making::Acting::turns_room))]
 fn turn_round(manager: &mut Manager, most: Option<u32>, told: u64)
     requires { MayTurnBack most manager.old.held }
     ensures turns { TurnsBackAt most told manager.old manager.old.held manager.new }

@@ -85,7 +85,7 @@ impl Run {
             rules: self.manager.rules().len(),
             entries: self.manager.entries(),
             writes: self.writes,
-            pending: self.pending.len(),
+            pending: self.asked.changes_with(&self.pending),
         };
         write_end(sink, &totals)
     }

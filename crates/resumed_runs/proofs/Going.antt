@@ -4,9 +4,9 @@ use Rattle.tcam_device.specs.declared.Action.{Action}
 use Rattle.tcam_device.specs.Flight.{Flight}
 use Rattle.batch_order.specs.Managed.{HeldCommit}
 use Rattle.replay.specs.declared.Act.{Act}
-use Rattle.replay.specs.declared.Act.TheVariants.{Command, Probe, Packet, Commit, Trial, Crash}
+use Rattle.replay.specs.declared.Act.TheVariants.{Command, Ask, All, Probe, Packet, Commit, Trial, Crash}
 use Rattle.replay.specs.declared.ActFault.{ActFault}
-use Rattle.replay.specs.declared.ActFault.TheVariants.{BatchFull, ProbesFull, Held, Stopped}
+use Rattle.replay.specs.declared.ActFault.TheVariants.{BatchFull, ChangesPending, ProbesFull, Held, Stopped}
 use Rattle.replay.specs.declared.RunFault.TheVariants.{Sink, Device, Memory}
 use Rattle.replay.specs.Fates.{AnswersBroken}
 use Rattle.rule_model.specs.declared.IpVersion.{IpVersion}
@@ -31,6 +31,8 @@ words_left slots old new act (Err (Stopped Device)) events_old events_new taken_
 words_left slots old new act (Err (Stopped Memory)) events_old events_new taken_old taken_new flight_old flight_new sound kept comes idle leaves left = absurd (kept refl)
 words_left slots old new act (Err BatchFull) events_old events_new taken_old taken_new flight_old flight_new sound kept comes idle leaves left =
     same-left old new flight_old flight_new comes.run leaves left
+words_left slots old new act (Err ChangesPending) events_old events_new taken_old taken_new flight_old flight_new sound kept comes idle leaves left =
+    same-left old new flight_old flight_new comes.run leaves left
 words_left slots old new act (Err ProbesFull) events_old events_new taken_old taken_new flight_old flight_new sound kept comes idle leaves left =
     same-left old new flight_old flight_new comes.run leaves left
 words_left slots old new act (Err (Held more)) events_old events_new taken_old taken_new flight_old flight_new sound kept comes idle leaves left =
@@ -43,6 +45,7 @@ whole_left act (Err (Stopped Sink)) broken broke sound kept = absurd (sound refl
 whole_left act (Err (Stopped Device)) broken broke sound kept = broke
 whole_left act (Err (Stopped Memory)) broken broke sound kept = absurd (kept refl)
 whole_left act (Err BatchFull) broken broke sound kept = broke
+whole_left act (Err ChangesPending) broken broke sound kept = broke
 whole_left act (Err ProbesFull) broken broke sound kept = broke
 whole_left act (Err (Held more)) broken broke sound kept = broke
 
@@ -63,6 +66,8 @@ lost_behind slots old new act result events_old events_new taken_old taken_new w
 -- a run whose report is in words takes any act
 pub told_words : (json : Bool) (version : IpVersion) (act : Act) → json ≡ false → IsToldIn json version act
 told_words json version (Command change) words = λ is. let bad : true ≡ false = sym is ∙ words in absurd (cc)
+told_words json version (Ask request) words = λ is. let bad : true ≡ false = sym is ∙ words in absurd (cc)
+told_words json version All words = tt
 told_words json version (Probe key) words = tt
 told_words json version (Packet key) words = tt
 told_words json version Commit words = tt

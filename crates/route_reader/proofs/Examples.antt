@@ -8,7 +8,7 @@ use Rattle.line_words.specs.declared.WordFault.{WordFault}
 use Rattle.line_words.specs.declared.WordFault.TheVariants.{UnknownCommand, WordCount, BadPrefix, HostBits, BadResult, BadPorts, BadHex, Frame}
 use Rattle.line_words.specs.Kinds.{ipv4_notation}
 use Rattle.route_reader.specs.declared.RouteCommand.{RouteCommand}
-use Rattle.route_reader.specs.declared.RouteCommand.TheVariants.{Add, Set, Del, Common}
+use Rattle.route_reader.specs.declared.RouteCommand.TheVariants.{Add, Set, Del, Put, Drop, All, Common}
 use Rattle.line_words.specs.declared.commands.CommonCommand.TheVariants.{Probe, Packet, Commit}
 use Rattle.route_reader.specs.Grammar.{route_line}
 
@@ -53,6 +53,24 @@ del = refl
 
 del-count : read (codes "route del 10.0.0.1/8 7") ≡ Err WordCount
 del-count = refl
+
+put : read (codes "route put 10.0.0.0/8 9") ≡ Ok (Some (Put (ipv4_block 0x0a000000 8) 9))
+put = refl
+
+put-count : read (codes "route put 10.0.0.0/8") ≡ Err WordCount
+put-count = refl
+
+drop : read (codes "route drop 10.0.0.0/8") ≡ Ok (Some (Drop (ipv4_block 0x0a000000 8)))
+drop = refl
+
+drop-bits : read (codes "route drop 10.0.0.1/8") ≡ Err HostBits
+drop-bits = refl
+
+all : read (codes "route all") ≡ Ok (Some All)
+all = refl
+
+all-count : read (codes "route all 10.0.0.0/8 9") ≡ Err WordCount
+all-count = refl
 
 other-verb : read (codes "route delete 10.0.0.0/8") ≡ Err UnknownCommand
 other-verb = refl

@@ -1,20 +1,20 @@
 -- What a line adds is a route of its version of IP.
-use Rattle.std.proofs.Common.{◌≡◌, ℕ, ◌≤◌, ◌-◌, ◌%◌, ◌^◌, ◌==◌, ◌&&◌, nat_le, inl, inr, List, [], ◌∷◌, codes, Option, Some, None, Result, Ok, Err, ok_or, cond, refl, ap, subst, arith}
+use Rattle.std.proofs.Common.{◌≡◌, ℕ, ◌≤◌, ◌-◌, ◌%◌, ◌^◌, ◌==◌, ◌&&◌, nat_le, inl, inr, List, [], ◌∷◌, codes, Option, Some, None, Result, Ok, Err, ok_or, cond, if◌then◌else◌, refl, ap, subst, arith}
 use Rattle.std.specs.Str.{bytes_eq}
 use Rattle.std.proofs.lemmas.Bool.{cases_Bool, and_parts, leb-true}
 use Rattle.rule_model.specs.declared.IpVersion.{IpVersion}
 use Rattle.rule_model.specs.declared.IpVersion.TheVariants.{V4, V6}
 use Rattle.rule_model.specs.AddressBlock.{AddressBlock, IsIpv4Block, ipv4_block}
 use Rattle.line_words.specs.declared.WordFault.{WordFault}
-use Rattle.line_words.specs.declared.WordFault.TheVariants.{BadPrefix}
+use Rattle.line_words.specs.declared.WordFault.TheVariants.{BadPrefix, UnknownCommand}
 use Rattle.line_words.specs.Words.{◌>>=◌, words_of, is_skipped}
 use Rattle.line_words.specs.Kinds.{ipv4_notation, result_of, ipv4_number, ipv4_prefix, number_up_to, is_number, number_value, block_of, parts_at}
 use Rattle.line_words.specs.Notations.{notation_for}
 use Rattle.line_words.specs.Commands.{common_command}
 use Rattle.line_words.specs.declared.commands.CommonCommand.{CommonCommand}
 use Rattle.route_reader.specs.declared.RouteCommand.{RouteCommand}
-use Rattle.route_reader.specs.declared.RouteCommand.TheVariants.{Add, Set, Del, Common}
-use Rattle.route_reader.specs.Grammar.{addition, change, removal, route_words, route_command, route_line}
+use Rattle.route_reader.specs.declared.RouteCommand.TheVariants.{Add, Set, Del, Put, Drop, All, Common}
+use Rattle.route_reader.specs.Grammar.{addition, change, forgiving_addition, forgiving_removal, removal, route_words, route_command, route_line, whole_set}
 use Rattle.route_reader.specs.Routes.{IsCommandOf}
 
 -- ---- the command of a line that has one
@@ -102,6 +102,48 @@ removal-ipv4 [] command is = absurd (cc)
 removal-ipv4 (prefix ∷ []) command is = del-ipv4 (ipv4_notation.block prefix) command is
 removal-ipv4 (prefix ∷ more ∷ words) command is = absurd (cc)
 
+put-ipv4 : (block : Result AddressBlock WordFault) (answer : Result ℕ WordFault) (command : RouteCommand) → ((prefix : AddressBlock) → block ≡ Ok prefix → IsIpv4Block prefix)
+    → (block >>= λ prefix. answer >>= λ number. Ok (Put prefix number)) ≡ Ok command → IsCommandOf V4 command
+put-ipv4 (Ok prefix) (Ok number) command right is = let same : Put prefix number ≡ command = cc in subst (IsCommandOf V4) same (right prefix refl)
+put-ipv4 (Ok prefix) (Err fault) command right is = absurd (cc)
+put-ipv4 (Err fault) answer command right is = absurd (cc)
+
+standing-ipv4 : (words : List (List ℕ)) (command : RouteCommand) → forgiving_addition ipv4_notation words ≡ Ok command → IsCommandOf V4 command
+standing-ipv4 [] command is = absurd (cc)
+standing-ipv4 (prefix ∷ []) command is = absurd (cc)
+standing-ipv4 (prefix ∷ answer ∷ []) command is = put-ipv4 (ipv4_notation.block prefix) (result_of answer) command (prefix-ipv4 (parts_at 47 prefix)) is
+standing-ipv4 (prefix ∷ answer ∷ more ∷ words) command is = absurd (cc)
+
+drop-ipv4 : (block : Result AddressBlock WordFault) (command : RouteCommand) → (block >>= λ prefix. Ok (Drop prefix)) ≡ Ok command → IsCommandOf V4 command
+drop-ipv4 (Ok prefix) command is = let same : Drop prefix ≡ command = cc in subst (IsCommandOf V4) same tt
+drop-ipv4 (Err fault) command is = absurd (cc)
+
+gone-ipv4 : (words : List (List ℕ)) (command : RouteCommand) → forgiving_removal ipv4_notation words ≡ Ok command → IsCommandOf V4 command
+gone-ipv4 [] command is = absurd (cc)
+gone-ipv4 (prefix ∷ []) command is = drop-ipv4 (ipv4_notation.block prefix) command is
+gone-ipv4 (prefix ∷ more ∷ words) command is = absurd (cc)
+
+whole-ipv4 : (words : List (List ℕ)) (command : RouteCommand) → whole_set words ≡ Ok command → IsCommandOf V4 command
+whole-ipv4 [] command is = let same : All ≡ command = cc in subst (IsCommandOf V4) same tt
+whole-ipv4 (word ∷ words) command is = absurd (cc)
+
+-- a verb that doesn't ask what is there
+forgiving-ipv4 : (verb : List ℕ) (rest : List (List ℕ)) (command : RouteCommand)
+    → (if bytes_eq verb (codes "put") then forgiving_addition ipv4_notation rest
+    else if bytes_eq verb (codes "drop") then forgiving_removal ipv4_notation rest
+    else if bytes_eq verb (codes "all") then whole_set rest
+    else Err UnknownCommand) ≡ Ok command → IsCommandOf V4 command
+forgiving-ipv4 verb rest command is = elim (cases_Bool (bytes_eq verb (codes "put"))) [
+  | inl puts ↦ standing-ipv4 rest command (rw puts at is)
+  | inr other ↦ elim (cases_Bool (bytes_eq verb (codes "drop"))) [
+    | inl drops ↦ gone-ipv4 rest command (rw (other, drops) at is)
+    | inr also ↦ elim (cases_Bool (bytes_eq verb (codes "all"))) [
+      | inl alls ↦ whole-ipv4 rest command (rw (other, also, alls) at is)
+      | inr neither ↦ let bad = rw (other, also, neither) at is in absurd (cc)
+    ]
+  ]
+]
+
 route-ipv4 : (words : List (List ℕ)) (command : RouteCommand) → route_words ipv4_notation words ≡ Ok command → IsCommandOf V4 command
 route-ipv4 [] command is = absurd (cc)
 route-ipv4 (verb ∷ rest) command is = elim (cases_Bool (bytes_eq verb (codes "add"))) [
@@ -110,7 +152,7 @@ route-ipv4 (verb ∷ rest) command is = elim (cases_Bool (bytes_eq verb (codes "
     | inl sets ↦ change-ipv4 rest command (rw (other, sets) at is)
     | inr also ↦ elim (cases_Bool (bytes_eq verb (codes "del"))) [
       | inl dels ↦ removal-ipv4 rest command (rw (other, also, dels) at is)
-      | inr neither ↦ let bad = rw (other, also, neither) at is in absurd (cc)
+      | inr neither ↦ forgiving-ipv4 verb rest command (rw (other, also, neither) at is)
     ]
   ]
 ]
@@ -135,6 +177,9 @@ command-ipv6 : (command : RouteCommand) → IsCommandOf V6 command
 command-ipv6 (Add prefix answer) = tt
 command-ipv6 (Set prefix answer) = tt
 command-ipv6 (Del prefix) = tt
+command-ipv6 (Put prefix answer) = tt
+command-ipv6 (Drop prefix) = tt
+command-ipv6 All = tt
 command-ipv6 (Common found) = tt
 
 pub line-of : (version : IpVersion) (text : List ℕ) (command : RouteCommand) → route_line (notation_for version) text ≡ Ok (Some command) → IsCommandOf version command

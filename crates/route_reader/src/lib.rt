@@ -3,6 +3,9 @@
 //!     route add PREFIX RESULT
 //!     route set PREFIX RESULT
 //!     route del PREFIX
+//!     route put PREFIX RESULT
+//!     route drop PREFIX
+//!     route all
 //!     probe KEY
 //!     packet KEY
 //!     frame HEX
@@ -22,7 +25,7 @@ mod routes;
 ghost use Rattle.std.specs.Prelude.{◌≡◌, ◌≤◌, ◌∷◌, codes, take};
 ghost use Rattle.std.specs.Str.{bytes_eq};
 ghost use Rattle.line_words.specs.Notations.{notation_for};
-ghost use Rattle.route_reader.specs.Grammar.{addition, change, removal, route_command, route_line, route_words};
+ghost use Rattle.route_reader.specs.Grammar.{addition, change, forgiving_addition, forgiving_removal, removal, route_command, route_line, route_words, whole_set};
 
 use line_words::{
     CommonCommand, WordFault, Words, command_words, common_command, prefix_of, result_of,
@@ -40,6 +43,12 @@ pub enum RouteCommand {
     Set(Prefix, u32),
     /// Removes a route.
     Del(Prefix),
+    /// Has a route stand with its result, whether one stood or not.
+    Put(Prefix, u32),
+    /// Has no route of this prefix stand, whether one stood or not.
+    Drop(Prefix),
+    /// Has the changes from here to the commit make the whole new set.
+    All,
     /// One that both kinds of script have.
     Common(CommonCommand),
 }
@@ -86,6 +95,9 @@ fn route_words(mut words: Words<'_>, version: IpVersion) -> Result<RouteCommand,
         b"add" => addition(words, version),
         b"set" => change(words, version),
         b"del" => removal(words, version),
+        b"put" => forgiving_addition(words, version),
+        b"drop" => forgiving_removal(words, version),
+        b"all" => whole_set(words),
         _ => Err(WordFault::UnknownCommand),
     }
 }
@@ -117,4 +129,31 @@ fn removal(mut words: Words<'_>, version: IpVersion) -> Result<RouteCommand, Wor
     let prefix = words.required()?;
     words.end()?;
     Ok(RouteCommand::Del(prefix_of(prefix, version)?))
+}
+
+/// A route that is to stand, from its two words.
+fn forgiving_addition(mut words: Words<'_>, version: IpVersion) -> Result<RouteCommand, WordFault>
+    ensures { result ≡ forgiving_addition (notation_for version) words.entry }
+{
+    let prefix = words.required()?;
+    let answer = words.required()?;
+    words.end()?;
+    Ok(RouteCommand::Put(prefix_of(prefix, version)?, result_of(answer)?))
+}
+
+/// A route that is to go, from its one word.
+fn forgiving_removal(mut words: Words<'_>, version: IpVersion) -> Result<RouteCommand, WordFault>
+    ensures { result ≡ forgiving_removal (notation_for version) words.entry }
+{
+    let prefix = words.required()?;
+    words.end()?;
+    Ok(RouteCommand::Drop(prefix_of(prefix, version)?))
+}
+
+/// The beginning of a whole new set, where no word is left.
+fn whole_set(words: Words<'_>) -> Result<RouteCommand, WordFault>
+    ensures { result ≡ whole_set words.entry }
+{
+    words.end()?;
+    Ok(RouteCommand::All)
 }

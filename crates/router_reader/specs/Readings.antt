@@ -38,6 +38,9 @@ abbrev pub route_act : IpVersion → RouteCommand → Result RouterAct WordFault
 route_act version (route.Add block answer) = Ok (Change Routes (Adds (route_rule (route_rank version block) block answer)))
 route_act version (route.Set block answer) = Ok (Change Routes (Sets (route_rank version block) answer))
 route_act version (route.Del block) = Ok (Change Routes (Dels (route_rank version block)))
+route_act version (route.Put block answer) = Err UnknownCommand
+route_act version (route.Drop block) = Err UnknownCommand
+route_act version route.All = Err UnknownCommand
 route_act version (route.Common command) = common_act command
 
 -- a rule of the list has its sequence number as its priority
@@ -45,6 +48,9 @@ abbrev pub acl_act : AclCommand → Result RouterAct WordFault
 acl_act (acl.Add rule) = Ok (Change ListSide (Adds rule))
 acl_act (acl.Set sequence answer) = Ok (Change ListSide (Sets (list_rank sequence) answer))
 acl_act (acl.Del sequence) = Ok (Change ListSide (Dels (list_rank sequence)))
+acl_act (acl.Put rule) = Err UnknownCommand
+acl_act (acl.Drop sequence) = Err UnknownCommand
+acl_act acl.All = Err UnknownCommand
 acl_act (acl.Common command) = common_act command
 
 -- the words that begin commands of a script of one table, and none of a router's

@@ -44,9 +44,10 @@ use script_lines::{LINE_BYTES, Line};
 /// What a line of a router's script does, or the text of its fault, of at most 32 bytes; nothing where it has no word or its
 /// first word begins with `#`. Addresses, prefixes and frames are read as those of this version of IP.
 ///
-/// `unknown command` comes where the first word, or for `acl` and `route` the first two, begin no command of a router, as
-/// `probe`, `trial` and `crash` begin none. `word count` comes where the command has another number of words. Else the
-/// fault is that of the leftmost word that isn't of its kind.
+/// `unknown command` comes where the first word, or for `acl` and `route` the first two, begin no command of a router: for
+/// `probe`, `trial` and `crash` whatever words follow, and for `put`, `drop` and `all` where those that follow are right.
+/// `word count` comes where the command has another number of words. Else the fault is that of the leftmost word that isn't
+/// of its kind.
 pub fn read_router_act(line: &Line, version: IpVersion) -> Result<Option<RouterAct>, &'static str>
     requires { line.now.len ≤ LINE_BYTES }
     ensures ok { IfOk result (λ found. router_reading version (numbered line.now).text ≡ Ok found) }
@@ -152,6 +153,9 @@ fn acl_act(command: &AclCommand) -> Result<RouterAct, WordFault>
             Side::List,
             Command::Del(list_rank(*sequence)),
         )),
+        AclCommand::Put(_) | AclCommand::Drop(_) | AclCommand::All => {
+            Err(WordFault::UnknownCommand)
+        }
         AclCommand::Common(command) => common_act(command),
     }
 }
@@ -175,6 +179,9 @@ fn route_act(command: &RouteCommand, version: IpVersion) -> Result<RouterAct, Wo
             Side::Routes,
             Command::Del(route_rank(prefix, version)),
         )),
+        RouteCommand::Put(_, _) | RouteCommand::Drop(_) | RouteCommand::All => {
+            Err(WordFault::UnknownCommand)
+        }
         RouteCommand::Common(command) => common_act(command),
     }
 }

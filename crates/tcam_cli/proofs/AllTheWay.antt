@@ -8,16 +8,17 @@ use Rattle.std.proofs.lemmas.List.{length-take-le, take_min, take-append-le, tak
 use Rattle.rule_model.specs.declared.Rule.{Rule}
 use Rattle.rule_model.specs.RuleSet.{answer}
 use Rattle.rule_store.specs.Batch.{set_after}
-use Rattle.rule_store.specs.Verdict.{Verdict, Accepted, Unsound, OutOfBits, OutOfSlots, verdict}
+use Rattle.rule_store.specs.Verdict.{Verdict, Accepted, Unsound, OutOfBits, OutOfSlots}
 use Rattle.tcam_device.specs.declared.Write.{Write}
 use Rattle.tcam_device.specs.State.{State, blank, lookup, Shows, apply, state_after}
 use Rattle.tcam_device.specs.Hitless.{ShowsOldOrNew}
 use Rattle.tcam_device.proofs.Spans.{state_after-append}
 use Rattle.tcam_device.proofs.Wider.{blank_shows}
 use Rattle.replay.specs.declared.Act.{Act}
-use Rattle.replay.specs.declared.Act.TheVariants.{Command, Probe, Packet, Commit, Trial, Crash}
+use Rattle.replay.specs.declared.Act.TheVariants.{Command, Ask, All, Probe, Packet, Commit, Trial, Crash}
+use Rattle.settled_changes.specs.declared.requested.Requested.TheVariants.{Nothing}
 use Rattle.replay.specs.Effects.{Setting, Effect, journal_of}
-use Rattle.replay.specs.Run.{Progress, start, Commits, Returns, Restarts, Refuses, Tries, Crashes, Judged, HasEffects, Run, Runs}
+use Rattle.replay.specs.Run.{Progress, start, Commits, Returns, Restarts, Refuses, Tries, Crashes, Judged, HasEffects, Run, Runs, pending_verdict, settled_at}
 use Rattle.script_runs.specs.Places.{IsFirstPast}
 use Rattle.tcam_cli.specs.AllTheWay.{Led, Stands, TakenBack, rules_in, set_at, sets_through, ShowsSetOrNext, AnswersAllTheWay, AreShownInTurn, EndsAtLast}
 use Rattle.replay.proofs.lines.Effects.{written-append}
@@ -179,7 +180,7 @@ IsShown progress = Shows progress.state progress.rules
 
 -- what acts do from where a run stands, with some trials taken back
 abbrev GoesBy : Setting → List Bool → Progress → List Act → List Write → Type 0
-GoesBy setting backs old acts writes = Goes old.state (sets_through setting backs old.rules old.batch acts) writes
+GoesBy setting backs old acts writes = Goes old.state (sets_through setting backs old.rules old.batch old.asked acts) writes
 
 abbrev GoesOn : Setting → Progress → List Act → List Write → Type 0
 GoesOn setting old acts writes = (backs : List Bool) × GoesBy setting backs old acts writes
@@ -189,9 +190,9 @@ abbrev Later : Setting → Progress → List Act → List Write → Type 0
 Later setting mid acts back = IsShown mid → GoesOn setting mid acts back
 
 -- where a run stands its state shows the first of the sets to come
-shows-first : (state : State) (setting : Setting) (backs : List Bool) (rules : List Rule) (acts : List Act) → Shows state rules → ShowsFirst state (sets_through setting backs rules [] acts)
+shows-first : (state : State) (setting : Setting) (backs : List Bool) (rules : List Rule) (acts : List Act) → Shows state rules → ShowsFirst state (sets_through setting backs rules [] Nothing acts)
 shows-first state setting backs rules acts shows other is =
-    let both : Some (Stands rules) ≡ Some (Stands other) = sym (first-set setting backs rules [] acts) ∙ is in
+    let both : Some (Stands rules) ≡ Some (Stands other) = sym (first-set setting backs rules [] Nothing acts) ∙ is in
     let same : rules ≡ other = cc in
     subst (Shows state) same shows
 
@@ -228,39 +229,39 @@ ends-behind state first sets made back here ends = record {
 }
 
 -- a commit that finishes
-goes-commit : (setting : Setting) (old : Progress) (front : List Effect) (mid : Progress) (acts : List Act) (back : List Write) → IsShown old → Commits setting old front mid → Later setting mid acts back
-    → (backs : List Bool) × Goes old.state (Stands old.rules ∷ sets_through setting backs (set_after old.rules old.batch) [] acts) (journal_of front ++ back)
+goes-commit : (setting : Setting) (old : Progress) (front : List Effect) (mid : Progress) (acts : List Act) (back : List Write) → IsShown old → Commits setting (settled_at old) front mid → Later setting mid acts back
+    → (backs : List Bool) × Goes old.state (Stands old.rules ∷ sets_through setting backs (set_after old.rules (settled_at old).batch) [] Nothing acts) (journal_of front ++ back)
 goes-commit setting old front mid acts back shown step more =
-    let new : List Rule = set_after old.rules old.batch in
+    let new : List Rule = set_after old.rules (settled_at old).batch in
     let P : Progress → Type 0 = λ p. Later setting p acts back in
     let last = subst P step.after more step.segment.hitless.after in
-    let sets : List Led = sets_through setting last.0 new [] acts in
+    let sets : List Led = sets_through setting last.0 new [] Nothing acts in
     let made : step.made ++ back ≡ journal_of front ++ back =
-    sym (ap (λ writes. writes ++ back) (ap journal_of step.effects_are ∙ written-segment setting old step.made _)) in (
+    sym (ap (λ writes. writes ++ back) (ap journal_of step.effects_are ∙ written-segment setting (settled_at old) step.made _)) in (
       last.0,
       subst (λ writes. Goes old.state (Stands old.rules ∷ sets) writes) made (
-        segment (Stands old.rules) (Stands new) sets old.state step.made back (first-set setting last.0 new [] acts) step.segment.hitless.on_the_way.during
+        segment (Stands old.rules) (Stands new) sets old.state step.made back (first-set setting last.0 new [] Nothing acts) step.segment.hitless.on_the_way.during
             (shows-first (state_after old.state step.made) setting last.0 new acts step.segment.hitless.after) last.1.0,
         ends-behind old.state (Stands old.rules) sets step.made back shown last.1.1,
       ),
     )
 
 -- one that crashes and is gone on with
-goes-restarted : (setting : Setting) (old : Progress) (after : ℕ) (front : List Effect) (mid : Progress) (acts : List Act) (back : List Write) → IsShown old → Restarts setting old after front mid → Later setting mid acts back
-    → (backs : List Bool) × Goes old.state (Stands old.rules ∷ sets_through setting backs (set_after old.rules old.batch) [] acts) (journal_of front ++ back)
+goes-restarted : (setting : Setting) (old : Progress) (after : ℕ) (front : List Effect) (mid : Progress) (acts : List Act) (back : List Write) → IsShown old → Restarts setting (settled_at old) after front mid → Later setting mid acts back
+    → (backs : List Bool) × Goes old.state (Stands old.rules ∷ sets_through setting backs (set_after old.rules (settled_at old).batch) [] Nothing acts) (journal_of front ++ back)
 goes-restarted setting old after front mid acts back shown step more =
-    let new : List Rule = set_after old.rules old.batch in
+    let new : List Rule = set_after old.rules (settled_at old).batch in
     let P : Progress → Type 0 = λ p. Later setting p acts back in
     let made : List Write = take after step.made ++ step.rest in
     let shows : Shows (state_after old.state made) new = subst (λ (now : State). Shows now new) (sym (state_after-append old.state (take after step.made) step.rest)) step.goes_on.after in
     let last = subst P step.new_is more shows in
-    let sets : List Led = sets_through setting last.0 new [] acts in
-    let same : made ++ back ≡ journal_of front ++ back = sym (ap (λ writes. writes ++ back) (written-restarts setting old mid after front step)) in
+    let sets : List Led = sets_through setting last.0 new [] Nothing acts in
+    let same : made ++ back ≡ journal_of front ++ back = sym (ap (λ writes. writes ++ back) (written-restarts setting (settled_at old) mid after front step)) in
     let during : (n : ℕ) → ShowsOldOrNew (state_after old.state (take n made)) old.rules new =
     joined old.rules new old.state step.made step.rest after step.crash.more step.crash.segment.hitless.on_the_way.during step.goes_on.during in (
       last.0,
       subst (λ writes. Goes old.state (Stands old.rules ∷ sets) writes) same (
-        segment (Stands old.rules) (Stands new) sets old.state made back (first-set setting last.0 new [] acts) during (shows-first (state_after old.state made) setting last.0 new acts shows) last.1.0,
+        segment (Stands old.rules) (Stands new) sets old.state made back (first-set setting last.0 new [] Nothing acts) during (shows-first (state_after old.state made) setting last.0 new acts shows) last.1.0,
         ends-behind old.state (Stands old.rules) sets made back shown last.1.1,
       ),
     )
@@ -280,13 +281,13 @@ back-passes state front n =
     )
 
 -- a trial that is taken back
-goes-return : (setting : Setting) (old : Progress) (most : ℕ) (front : List Effect) (mid : Progress) (acts : List Act) (back : List Write) → IsShown old → Returns setting old most front mid → Later setting mid acts back
-    → (backs : List Bool) × Goes old.state (Stands old.rules ∷ TakenBack (set_after old.rules old.batch) ∷ sets_through setting backs old.rules [] acts) (journal_of front ++ back)
+goes-return : (setting : Setting) (old : Progress) (most : ℕ) (front : List Effect) (mid : Progress) (acts : List Act) (back : List Write) → IsShown old → Returns setting (settled_at old) most front mid → Later setting mid acts back
+    → (backs : List Bool) × Goes old.state (Stands old.rules ∷ TakenBack (set_after old.rules (settled_at old).batch) ∷ sets_through setting backs old.rules [] Nothing acts) (journal_of front ++ back)
 goes-return setting old most front mid acts back shown step more =
-    let new : List Rule = set_after old.rules old.batch in
+    let new : List Rule = set_after old.rules (settled_at old).batch in
     let P : Progress → Type 0 = λ p. Later setting p acts back in
     let last = subst P step.after more shown in
-    let sets : List Led = sets_through setting last.0 old.rules [] acts in
+    let sets : List Led = sets_through setting last.0 old.rules [] Nothing acts in
     let there : List Write = take most step.made in
     let undo : List Write = undo_writes old.state there in
     let begins : state_after (state_after old.state there) undo ≡ old.state = sym (state_after-append old.state there undo) ∙ undo_ends old.state there in
@@ -302,12 +303,12 @@ goes-return setting old most front mid acts back shown step more =
     subst (λ state. ShowsOldOrNew state new old.rules) (sym passes.1) (shows-back (state_after old.state (take passes.0 there)) old.rules new (on passes.0))) in
     let rest : Goes (state_after (state_after old.state there) undo) sets back = subst (λ state. Goes state sets back) (sym begins) last.1 in
     let again : Goes (state_after old.state there) (TakenBack new ∷ sets) (undo ++ back) = (
-      segment (TakenBack new) (Stands old.rules) sets (state_after old.state there) undo back (first-set setting last.0 old.rules [] acts) off
+      segment (TakenBack new) (Stands old.rules) sets (state_after old.state there) undo back (first-set setting last.0 old.rules [] Nothing acts) off
           (shows-first (state_after (state_after old.state there) undo) setting last.0 old.rules acts (subst (λ now. Shows now old.rules) (sym begins) shown)) rest.0,
       ends-behind (state_after old.state there) (TakenBack new) sets undo back tt rest.1,
     ) in
     let made : there ++ (undo ++ back) ≡ journal_of front ++ back =
-    sym (append_assoc there undo back) ∙ sym (ap (λ writes. writes ++ back) (ap journal_of step.effects_are ∙ written-return setting old most step.made _)) in (
+    sym (append_assoc there undo back) ∙ sym (ap (λ writes. writes ++ back) (ap journal_of step.effects_are ∙ written-return setting (settled_at old) most step.made _)) in (
       last.0,
       subst (λ writes. Goes old.state (Stands old.rules ∷ TakenBack new ∷ sets) writes) made (
         segment (Stands old.rules) (TakenBack new) (TakenBack new ∷ sets) old.state there (undo ++ back) refl on (λ rules stands. absurd (let bad : TakenBack new ≡ Stands rules = cc in cc)) again.0,
@@ -316,24 +317,24 @@ goes-return setting old most front mid acts back shown step more =
     )
 
 -- one that is refused
-goes-refused : (setting : Setting) (old : Progress) (reason : Verdict) (front : List Effect) (mid : Progress) (acts : List Act) (back : List Write) → IsShown old → Refuses setting old reason front mid → Later setting mid acts back
-    → (backs : List Bool) × Goes old.state (sets_through setting backs old.rules [] acts) (journal_of front ++ back)
+goes-refused : (setting : Setting) (old : Progress) (reason : Verdict) (front : List Effect) (mid : Progress) (acts : List Act) (back : List Write) → IsShown old → Refuses setting (settled_at old) reason front mid → Later setting mid acts back
+    → (backs : List Bool) × Goes old.state (sets_through setting backs old.rules [] Nothing acts) (journal_of front ++ back)
 goes-refused setting old reason front mid acts back shown step more =
     let P : Progress → Type 0 = λ p. Later setting p acts back in
     let last = subst P step.1 more shown in
-    (last.0, subst (λ writes. Goes old.state (sets_through setting last.0 old.rules [] acts) writes) (sym (ap (λ effects. journal_of effects ++ back) step.0)) last.1)
+    (last.0, subst (λ writes. Goes old.state (sets_through setting last.0 old.rules [] Nothing acts) writes) (sym (ap (λ effects. journal_of effects ++ back) step.0)) last.1)
 
 goes-judged : (setting : Setting) (old : Progress) (is : Verdict) (front : List Effect) (mid : Progress) (acts : List Act) (back : List Write)
-    → IsShown old → Judged Commits setting old is front mid → Later setting mid acts back
-    → (backs : List Bool) × Goes old.state (sets_judged setting backs old.rules old.batch acts is) (journal_of front ++ back)
+    → IsShown old → Judged Commits setting (settled_at old) is front mid → Later setting mid acts back
+    → (backs : List Bool) × Goes old.state (sets_judged setting backs old.rules (settled_at old).batch acts is) (journal_of front ++ back)
 goes-judged setting old Accepted front mid acts back shown step more = goes-commit setting old front mid acts back shown step more
 goes-judged setting old (Unsound fault) front mid acts back shown step more = goes-refused setting old (Unsound fault) front mid acts back shown step more
 goes-judged setting old (OutOfBits field needed free) front mid acts back shown step more = goes-refused setting old (OutOfBits field needed free) front mid acts back shown step more
 goes-judged setting old (OutOfSlots needed free) front mid acts back shown step more = goes-refused setting old (OutOfSlots needed free) front mid acts back shown step more
 
 goes-tried : (most : ℕ) (setting : Setting) (old : Progress) (is : Verdict) (front : List Effect) (mid : Progress) (acts : List Act) (back : List Write)
-    → IsShown old → Judged (Tries most) setting old is front mid → Later setting mid acts back
-    → (backs : List Bool) × Goes old.state (trial_judged setting backs old.rules old.batch acts is) (journal_of front ++ back)
+    → IsShown old → Judged (Tries most) setting (settled_at old) is front mid → Later setting mid acts back
+    → (backs : List Bool) × Goes old.state (trial_judged setting backs old.rules (settled_at old).batch acts is) (journal_of front ++ back)
 goes-tried most setting old Accepted front mid acts back shown (inl commits) more =
     let last = goes-commit setting old front mid acts back shown commits.0 more in (false ∷ last.0, last.1)
 goes-tried most setting old Accepted front mid acts back shown (inr returns) more =
@@ -343,8 +344,8 @@ goes-tried most setting old (OutOfBits field needed free) front mid acts back sh
 goes-tried most setting old (OutOfSlots needed free) front mid acts back shown step more = goes-refused setting old (OutOfSlots needed free) front mid acts back shown step more
 
 goes-crashed : (after : ℕ) (setting : Setting) (old : Progress) (is : Verdict) (front : List Effect) (mid : Progress) (acts : List Act) (back : List Write)
-    → IsShown old → Judged (Crashes after) setting old is front mid → Later setting mid acts back
-    → (backs : List Bool) × Goes old.state (sets_judged setting backs old.rules old.batch acts is) (journal_of front ++ back)
+    → IsShown old → Judged (Crashes after) setting (settled_at old) is front mid → Later setting mid acts back
+    → (backs : List Bool) × Goes old.state (sets_judged setting backs old.rules (settled_at old).batch acts is) (journal_of front ++ back)
 goes-crashed after setting old Accepted front mid acts back shown (inl commits) more = goes-commit setting old front mid acts back shown commits.0 more
 goes-crashed after setting old Accepted front mid acts back shown (inr restarts) more = goes-restarted setting old after front mid acts back shown restarts more
 goes-crashed after setting old (Unsound fault) front mid acts back shown step more = goes-refused setting old (Unsound fault) front mid acts back shown step more
@@ -362,15 +363,17 @@ goes-still setting old act front mid now acts back none same shown goes more =
 goes-step : (setting : Setting) (old : Progress) (act : Act) (front : List Effect) (mid : Progress) (acts : List Act) (back : List Write)
     → IsShown old → HasEffects setting old act front mid → Later setting mid acts back → GoesOn setting old (act ∷ acts) (journal_of front ++ back)
 goes-step setting old (Command change) front mid acts back shown step more = goes-still setting old (Command change) front mid _ acts back (ap journal_of step.0) step.1 shown (λ goes. goes) more
+goes-step setting old (Ask request) front mid acts back shown step more = goes-still setting old (Ask request) front mid _ acts back (ap journal_of step.0) step.1 shown (λ goes. goes) more
+goes-step setting old All front mid acts back shown step more = goes-still setting old All front mid _ acts back (ap journal_of step.0) step.1 shown (λ goes. goes) more
 goes-step setting old (Probe key) front mid acts back shown step more = goes-still setting old (Probe key) front mid _ acts back (ap journal_of step.0) step.1 shown (λ goes. goes) more
 goes-step setting old (Packet key) front mid acts back shown step more =
     goes-still setting old (Packet key) front mid _ acts back (ap journal_of step.0 ∙ packet-still setting (answer old.rules key)) step.1 shown (λ goes. goes) more
 goes-step setting old Commit front mid acts back shown step more =
-    goes-judged setting old (verdict setting.slots setting.mode old.rules old.batch) front mid acts back shown step more
+    goes-judged setting old (pending_verdict setting old) front mid acts back shown step more
 goes-step setting old (Trial most) front mid acts back shown step more =
-    goes-tried most setting old (verdict setting.slots setting.mode old.rules old.batch) front mid acts back shown step more
+    goes-tried most setting old (pending_verdict setting old) front mid acts back shown step more
 goes-step setting old (Crash after) front mid acts back shown step more =
-    goes-crashed after setting old (verdict setting.slots setting.mode old.rules old.batch) front mid acts back shown step more
+    goes-crashed after setting old (pending_verdict setting old) front mid acts back shown step more
 
 goes : (setting : Setting) (old : Progress) (acts : List Act) (effects : List Effect) (new : Progress) → IsShown old → Run setting old acts effects new → GoesOn setting old acts (journal_of effects)
 goes setting old [] effects new shown run =
@@ -383,20 +386,20 @@ goes setting old (act ∷ acts) effects new shown (front, mid, back, step, rest,
 -- what a run over some acts shows
 abbrev pub RunGoes : Setting → ℕ → List Bool → List Act → List Effect → Type 0
 RunGoes setting slots backs acts effects =
-    AnswersAllTheWay (blank slots) (sets_through setting backs [] [] acts) (journal_of effects) × EndsAtLast (blank slots) (sets_through setting backs [] [] acts) (journal_of effects)
+    AnswersAllTheWay (blank slots) (sets_through setting backs [] [] Nothing acts) (journal_of effects) × EndsAtLast (blank slots) (sets_through setting backs [] [] Nothing acts) (journal_of effects)
 
 pub run-goes : (setting : Setting) (slots : ℕ) (acts : List Act) (effects : List Effect) (last : Progress) → Runs setting slots acts effects last → (backs : List Bool) × RunGoes setting slots backs acts effects
 run-goes setting slots acts effects last run = goes setting (start slots) acts effects last (blank_shows slots) run
 
 -- where a run is cut in the middle of an act, by what it would have come to
 pub cut-answers : (setting : Setting) (slots : ℕ) (backs : List Bool) (done : List Act) (act : Act) (behind all : List Act) (body front back : List Effect) → all ≡ done ++ act ∷ behind
-    → RunGoes setting slots backs (done ++ act ∷ []) (body ++ (front ++ back)) → AnswersAllTheWay (blank slots) (sets_through setting backs [] [] all) (journal_of (body ++ front))
+    → RunGoes setting slots backs (done ++ act ∷ []) (body ++ (front ++ back)) → AnswersAllTheWay (blank slots) (sets_through setting backs [] [] Nothing all) (journal_of (body ++ front))
 cut-answers setting slots backs done act behind all body front back same goes =
     let first : List Act = done ++ act ∷ [] in
     let whole : List Effect = body ++ (front ++ back) in
     let parts : journal_of whole ≡ journal_of (body ++ front) ++ journal_of back = ap journal_of (sym (append_assoc body front back)) ∙ written-append (body ++ front) back in
-    let sets : List Led = sets_through setting backs [] [] all in
+    let sets : List Led = sets_through setting backs [] [] Nothing all in
     let answers : AnswersAllTheWay (blank slots) sets (journal_of whole) =
-    subst (λ acts. AnswersAllTheWay (blank slots) (sets_through setting backs [] [] acts) (journal_of whole)) (sym (same ∙ sym (append_assoc done (act ∷ []) behind)))
-    (wider (blank slots) (sets_through setting backs [] [] first) (sets_through setting backs [] [] (first ++ behind)) (journal_of whole) (more-sets setting backs [] [] first behind) goes.0) in
+    subst (λ acts. AnswersAllTheWay (blank slots) (sets_through setting backs [] [] Nothing acts) (journal_of whole)) (sym (same ∙ sym (append_assoc done (act ∷ []) behind)))
+    (wider (blank slots) (sets_through setting backs [] [] Nothing first) (sets_through setting backs [] [] Nothing (first ++ behind)) (journal_of whole) (more-sets setting backs [] [] Nothing first behind) goes.0) in
     cut (blank slots) sets (journal_of (body ++ front)) (journal_of back) (subst (λ writes. AnswersAllTheWay (blank slots) sets writes) parts answers)

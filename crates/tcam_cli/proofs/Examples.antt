@@ -7,12 +7,13 @@ use Rattle.rule_store.specs.declared.Mode.TheVariants.{Cover}
 use Rattle.rule_store.specs.Verdict.{OutOfSlots}
 use Rattle.report_lines.specs.declared.Family.TheVariants.{Route, Acl}
 use Rattle.replay.specs.declared.Act.{Act}
-use Rattle.replay.specs.declared.Act.TheVariants.{Command, Commit}
+use Rattle.settled_changes.specs.declared.Request.TheVariants.{Put as Puts, Drop as Drops}
+use Rattle.replay.specs.declared.Act.TheVariants.{Command, Ask, All, Commit}
 use Rattle.rule_store.specs.declared.Command.TheVariants.{Add, Set, Del}
 use Rattle.rule_model.specs.AddressBlock.{ipv4_block}
 use Rattle.rule_model.specs.Rank.{ipv4_route_rank, list_rank}
 use Rattle.rule_model.specs.Rule.{route_rule}
-use Rattle.script_runs.specs.Script.{Whole}
+use Rattle.script_runs.specs.Script.{Whole, FaultAt}
 use Rattle.replay.specs.Script.{script_of}
 use Rattle.replay.specs.Text.{accepted_line, refused_line}
 use Rattle.report_lines.specs.Text.{fault_line}
@@ -30,6 +31,7 @@ use Rattle.tcam_device.proofs.States.{IsState-blank}
 use Rattle.tcam_device.proofs.Wider.{empty_slot}
 use Rattle.commit_writes.proofs.NoBits.{bit_writes-none}
 use Rattle.tcam_device.specs.State as State
+use Rattle.commit_writes.specs.Proposal.{proposal}
 use Rattle.commit_writes.specs.declared.Done.{Done as Counts}
 use Rattle.commit_writes.specs.Bits.{no_bits}
 use Rattle.commit_writes.specs.Commit.{HoldsInOrder, IsSegment}
@@ -93,6 +95,22 @@ list-acts : script_of (reading Acl) (feed (codes "acl set 100 permit") ++ feed (
       last = Whole;
     }
 list-acts = refl
+
+-- changes that don't ask what is there, and a whole new set, which can't be begun while they are pending
+feed-acts : script_of (reading Route) (feed (codes "route put 10.0.0.0/8 9") ++ feed (codes "route drop 10.0.0.0/8") ++ feed (codes "route all"))
+    ≡ record {
+      acts = record { line = 1; act = Ask (Puts (route_rule (ipv4_route_rank (ipv4_block 0x0a000000 8)) (ipv4_block 0x0a000000 8) 9)) }
+          ∷ record { line = 2; act = Ask (Drops (ipv4_route_rank (ipv4_block 0x0a000000 8))) } ∷ [];
+      last = FaultAt 3 (codes "changes pending");
+    }
+feed-acts = refl
+
+whole-acts : script_of (reading Acl) (feed (codes "acl all") ++ feed (codes "acl drop 7"))
+    ≡ record {
+      acts = record { line = 1; act = All } ∷ record { line = 2; act = Ask (Drops (list_rank 7)) } ∷ [];
+      last = Whole;
+    }
+whole-acts = refl
 
 abbrev one-pending : Progress
 one-pending = record (start 8) { batch = Add (route_rule (ipv4_route_rank (ipv4_block 0x0a000000 8)) (ipv4_block 0x0a000000 8) 7) ∷ [] }
@@ -269,7 +287,7 @@ nothing-placed =
       rewrites = [];
       erased = [];
       stands = refl;
-      commit = subst (λ writes. IsPlannedBatch Cover no_bits (State.state_after (State.blank 8) writes) [] [] [] no-ids [] [] [] []) (sym (bit_writes-none (State.blank 8)))
+      commit = subst (λ writes. IsPlannedBatch (proposal Cover no_bits [] []) (State.state_after (State.blank 8) writes) [] no-ids [] [] [] []) (sym (bit_writes-none (State.blank 8)))
           record {
             is_state = IsState-blank 8;
             mirrors = refl;

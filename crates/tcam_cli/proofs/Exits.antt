@@ -16,6 +16,7 @@ use Rattle.replay.specs.declared.RunFault.TheVariants as run_fault
 use Rattle.replay.specs.Script.{limit_fault, script_of}
 use Rattle.replay.specs.Reports.{fault_told}
 use Rattle.replay.specs.Effects.{Setting}
+use Rattle.settled_changes.specs.Requested.{changes_in}
 use Rattle.replay.specs.Run.{Progress}
 use Rattle.replay.specs.Carried.{IsAt, Carries, Wants}
 use Rattle.replay.specs.Running.{Running, setting_of}
@@ -44,7 +45,7 @@ closes-by run new number text result before after same closes =
 -- a line came, of an act for which there is room
 module _ (setting : Setting) (slots : ℕ) (bytes : List ℕ) (old : HeldBytes) (left : List ℕ) (last : Progress) (events : List Action) (start before : Option (List ℕ)) (s : SoFar (run_kind setting slots) bytes old left last events start before)
     (line : Line) (new : HeldBytes) (now : List ℕ) (again : Again old.over (Ok (Some line))) (hands : old.over ≡ over.Going → HandsOne old left (numbered line) new now)
-    (act : Act) (is : reading_by setting (numbered line).text ≡ Ok (Some act)) (room : limit_fault act (length last.batch) (length last.probes) ≡ None) (events_new : List Action) (after : Option (List ℕ)) where
+    (act : Act) (is : reading_by setting (numbered line).text ≡ Ok (Some act)) (room : limit_fault act (changes_in last.batch last.asked) (length last.probes) ≡ None) (events_new : List Action) (after : Option (List ℕ)) where
   at : IsAt slots events last
   at = run-at setting slots (acts_only s.acts) s.effects last events s.run s.events_is
 

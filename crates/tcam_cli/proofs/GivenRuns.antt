@@ -7,7 +7,7 @@ use Rattle.script_lines.specs.Given.{MayGive, GivesPieces}
 use Rattle.script_lines.specs.Reader.{HeldBytes, HandsByGiven}
 use Rattle.script_runs.specs.declared.Status.{Status}
 use Rattle.script_runs.specs.declared.Status.TheVariants.{Done, Memory, Usage}
-use Rattle.script_runs.specs.Rounds.{SoFar, EndsRun, Closes, RoundsBy, WantsNext, Grows}
+use Rattle.script_runs.specs.Rounds.{SoFar, EndsRun, Closes, RoundsBy, WantsNext, Grows, outputs}
 use Rattle.script_runs.proofs.Rounds.{EndsGiven, ends-told, rounds-some}
 use Rattle.tcam_device.specs.declared.Action.{Action}
 use Rattle.replay.specs.declared.RunFault.{RunFault}
@@ -26,7 +26,7 @@ pub rounds-stopped : (setting : Setting) (slots : ℕ) (old : HeldBytes) (before
     → ((bytes left now : List ℕ) (start : Option (List ℕ)) → MayGive left pieces now → SoFar (run_kind setting slots) bytes old left before events_old start taken_old → Grows (λ first second. first ++ second) events_old events_new taken_old taken_new)
     → ((bytes taken left now : List ℕ) (start : Option (List ℕ)) → MayGive left pieces now → bytes ≡ taken ++ now → SoFar (run_kind setting slots) bytes old left before events_old start taken_old → EndsRun (run_kind setting slots) bytes taken now (status_of_fault why) events_new start taken_new)
     → (why ≡ run_fault.Memory → (bytes left now : List ℕ) (start : Option (List ℕ)) → MayGive left pieces now → (s : SoFar (run_kind setting slots) bytes old left before events_old start taken_old) → WantsNext (run_kind setting slots) s.acts bytes before events_old events_new taken_old taken_new)
-    → RoundsBy (run_kind setting slots) old before pieces (Some (status_of_fault why)) new after events_old events_new taken_old taken_new
+    → RoundsBy (run_kind setting slots) old before pieces (Some (status_of_fault why)) new after (outputs events_old taken_old) (outputs events_new taken_new)
 rounds-stopped setting slots old before pieces answer held why new after events_old events_new taken_old taken_new by grows ends wants =
     rounds-some (run_kind setting slots) old before pieces answer held (status_of_fault why) new after events_old events_new taken_old taken_new by grows ends (λ e. wants (is-memory why e))
   where

@@ -1,7 +1,7 @@
 -- What packets see of each outcome of a run.
 use Rattle.std.proofs.Common.{◌≡◌, inl, inr, ℕ, zero, suc, ◌+◌, ◌-◌, ◌*◌, ◌==◌, Bool, true, false, min, map, Option, Some, None, List, [], ◌∷◌, ◌++◌, length, take, drop, refl, ap, sym, ◌∙◌, subst, append_assoc, append-nil, take-append-drop}
 use Rattle.std.specs.List.{AllByRecursion}
-use Rattle.rule_store.specs.Verdict.{Verdict, Accepted, Unsound, OutOfBits, OutOfSlots, verdict}
+use Rattle.rule_store.specs.Verdict.{Verdict, Accepted, Unsound, OutOfBits, OutOfSlots}
 use Rattle.tcam_device.specs.declared.Write.{Write}
 use Rattle.tcam_device.specs.declared.Action.{Action}
 use Rattle.tcam_device.specs.declared.Action.TheVariants.{Written, Drained}
@@ -9,12 +9,13 @@ use Rattle.tcam_device.specs.Flight.{writes_in}
 use Rattle.tcam_device.specs.State.{State, apply, blank, state_after}
 use Rattle.rule_model.specs.RuleSet.{answer}
 use Rattle.replay.specs.declared.Act.{Act}
-use Rattle.replay.specs.declared.Act.TheVariants.{Command, Probe, Packet, Commit, Trial, Crash}
+use Rattle.replay.specs.declared.Act.TheVariants.{Command, Ask, All, Probe, Packet, Commit, Trial, Crash}
 use Rattle.script_runs.specs.Script.{Whole, acts_of}
 use Rattle.replay.specs.Script.{Script, script_kind, script_of}
 use Rattle.replay.specs.Effects.{Setting, Effect, Acts, Prints, journal_of, traced, drain_told, write_told, searches_of, flushed, searched_after, waiting_after, effects_of}
 use Rattle.replay.specs.Fates.{IsCrash}
-use Rattle.replay.specs.Run.{Progress, start, Commits, Tries, Crashes, actions_back, actions_before, actions_for, actions_over, carried, IsCutBeforeCrash, IsCutInStep, IsCutStep, Judged, HasEffects, Runs, TakesMemory}
+use Rattle.settled_changes.specs.declared.requested.Requested.TheVariants.{Nothing}
+use Rattle.replay.specs.Run.{Progress, start, Commits, Tries, Crashes, actions_back, actions_before, actions_for, actions_over, carried, IsCutBeforeCrash, IsCutInStep, IsCutStep, Judged, HasEffects, Runs, TakesMemory, pending_verdict, settled_at}
 use Rattle.replay.specs.Text.{aborted_line, drain_line, restarted_line, write_line}
 use Rattle.replay.specs.Reports.{done_line, packet_told}
 use Rattle.script_runs.specs.declared.Status.{Status}
@@ -68,7 +69,7 @@ as-commits setting slots script done after later body front before acts run whol
     (run-more setting slots done body before Commit (front ++ whole.back) whole.after run whole.step) in
     let answers = cut-answers setting slots goes.0 done Commit later (done ++ Commit ∷ later) body front whole.back refl goes.1 in (
       goes.0,
-      subst (λ sets. AnswersAllTheWay (blank slots) sets (journal_of (body ++ front))) (same-sets setting done after later goes.0 [] [] ∙ ap (sets_through setting goes.0 [] []) (sym acts)) answers,
+      subst (λ sets. AnswersAllTheWay (blank slots) sets (journal_of (body ++ front))) (same-sets setting done after later goes.0 [] [] Nothing ∙ ap (sets_through setting goes.0 [] [] Nothing) (sym acts)) answers,
     )
 
 -- the writes before a crash
@@ -100,12 +101,12 @@ at-due setting slots script effects due (inr end) = let goes = run-goes setting 
 ends-after : (setting : Setting) (slots : ℕ) (backs : List Bool) (script : Script) (done later : List Act) (effects : List Effect) → acts_of script ≡ done ++ later
     → RunGoes setting slots backs done effects → EndsAfter (blank slots) setting backs script done (journal_of effects)
 ends-after setting slots backs script done later effects same goes =
-    let more = more-sets setting backs [] [] done later in
+    let more = more-sets setting backs [] [] Nothing done later in
     record {
       later = later;
       acts = same;
       behind = more.0;
-      sets = ap (sets_through setting backs [] []) same ∙ more.1;
+      sets = ap (sets_through setting backs [] [] Nothing) same ∙ more.1;
       answers = goes.0;
       ends = goes.1;
     }
@@ -121,7 +122,7 @@ after-acts setting slots script done later effects last same run =
 whole-acts : (setting : Setting) (slots : ℕ) (backs : List Bool) (script : Script) (done : List Act) (writes : List Write) → EndsAfter (blank slots) setting backs script done writes
     → AnswersAllTheWay (blank slots) (sets_of setting backs script) writes
 whole-acts setting slots backs script done writes is =
-    wider (blank slots) (sets_through setting backs [] [] done) (sets_of setting backs script) writes (is.behind, is.sets) is.answers
+    wider (blank slots) (sets_through setting backs [] [] Nothing done) (sets_of setting backs script) writes (is.behind, is.sets) is.answers
 
 -- where memory was wanting: all of some of them, unless a commit crashes
 abbrev WantsMemory : Setting → ℕ → Script → List Write → Type 0
@@ -149,12 +150,14 @@ wants-at setting slots script effects at = subst (λ effects. WantsMemory settin
 
     by : (act : Act) → acts_of script ≡ at.done ++ act ∷ at.later → (front : List Effect) → TakesMemory setting at.before act front → WantsMemory setting slots script (journal_of (at.body ++ front))
     by (Command change) acts front needs = nothing (Command change) acts front needs
+    by (Ask request) acts front needs = nothing (Ask request) acts front needs
+    by All acts front needs = absurd needs
     by (Probe key) acts front needs = absurd needs
     by (Packet key) acts front needs = absurd needs
     by Commit acts front needs = nothing Commit acts front needs.1
     by (Trial most) acts front needs = nothing (Trial most) acts front needs.1
-    by (Crash after) acts front (accepted, inl none) = nothing (Crash after) acts front none
-    by (Crash after) acts front (accepted, inr stops) =
+    by (Crash after) acts front (inl none) = nothing (Crash after) acts front none.1
+    by (Crash after) acts front (inr (accepted, stops)) =
         let some = as-commits setting slots script at.done after at.later at.body front at.before acts at.run (stops-as_commit setting at.before after front accepted stops) in
         (some.0, some.1, λ nowhere. absurd (has-crash at.done after at.later (subst (AllByRecursion (λ act. IsCrash act → ⊥)) acts nowhere)))
 
@@ -254,16 +257,18 @@ last-crashed limit setting before (OutOfSlots needed free) front back line after
 last-step : (setting : Setting) (before : Progress) (act : Act) (front back : List Effect) (line : List ℕ) (after : Progress)
     → setting.trace ≡ false → setting.json ≡ false → before.probes ≡ [] → HasEffects setting before act (front ++ Prints line ∷ back) after → back ≡ []
 last-step setting before (Command change) front back line after quiet words none step = absurd (not-none front (Prints line) back step.0)
+last-step setting before (Ask request) front back line after quiet words none step = absurd (not-none front (Prints line) back step.0)
+last-step setting before All front back line after quiet words none step = absurd (not-none front (Prints line) back step.0)
 last-step setting before (Probe key) front back line after quiet words none step = absurd (not-none front (Prints line) back step.0)
 last-step setting before (Packet key) front back line after quiet words none step =
     last-line [] front back line _
     (step.0 ∙ ap (λ json. packet_told (record setting { json = json }) (answer before.rules key)) words)
 last-step setting before Commit front back line after quiet words none step =
-    last-judged setting before (verdict setting.slots setting.mode before.rules before.batch) front back line after quiet words none step
+    last-judged setting (settled_at before) (pending_verdict setting before) front back line after quiet words none step
 last-step setting before (Trial most) front back line after quiet words none step =
-    last-tried most setting before (verdict setting.slots setting.mode before.rules before.batch) front back line after quiet words none step
+    last-tried most setting (settled_at before) (pending_verdict setting before) front back line after quiet words none step
 last-step setting before (Crash limit) front back line after quiet words none step =
-    last-crashed limit setting before (verdict setting.slots setting.mode before.rules before.batch) front back line after quiet words none step
+    last-crashed limit setting (settled_at before) (pending_verdict setting before) front back line after quiet words none step
 
 -- the first of some acts are no probes either
 none-first : (done later : List Act) → AllByRecursion IsNoProbe (done ++ later) → AllByRecursion IsNoProbe done
@@ -304,10 +309,10 @@ at-line setting slots script effects line (inl at) = go at.cut
           some.0,
           some.1,
           λ quiet.
-              let actions = actions_before setting at.before cut.after cut.made in
+              let actions = actions_before setting (settled_at at.before) cut.after cut.made in
               let all : map Acts actions ≡ at.front ++ Prints line ∷ cut.back =
               sym (quiet-actions setting 0 0 at.before.state actions quiet.0 quiet.1) ∙ ap (λ probes. effects_of setting probes 0 0 at.before.state actions) (sym (probes-none quiet))
-              ∙ sym (so_far-words setting at.before actions quiet.1) ∙ cut.parts in
+              ∙ sym (so_far-words setting (settled_at at.before) actions quiet.1) ∙ cut.parts in
               absurd (no-line actions at.front line cut.back all),
         )
 at-line setting slots script effects line (inr end) =

@@ -4,9 +4,12 @@ use Rattle.std.proofs.Common.{◌≡◌, ℕ, ◌+◌, ◌-◌, Bool, true, fals
 use Rattle.rule_model.specs.declared.Rule.{Rule}
 use Rattle.rule_store.specs.declared.Command.{Command as Change}
 use Rattle.rule_store.specs.Batch.{set_after}
-use Rattle.rule_store.specs.Verdict.{Verdict, Accepted, Unsound, OutOfBits, OutOfSlots, verdict}
+use Rattle.rule_store.specs.Verdict.{Verdict, Accepted, Unsound, OutOfBits, OutOfSlots}
 use Rattle.replay.specs.declared.Act.{Act}
-use Rattle.replay.specs.declared.Act.TheVariants.{Command, Probe, Packet, Commit, Trial, Crash}
+use Rattle.replay.specs.declared.Act.TheVariants.{Command, Ask, All, Probe, Packet, Commit, Trial, Crash}
+use Rattle.settled_changes.specs.declared.requested.Requested.{Requested}
+use Rattle.settled_changes.specs.declared.requested.Requested.TheVariants.{Nothing, Whole}
+use Rattle.settled_changes.specs.Requested.{asked_behind, asked_with, batch_behind, batch_with, settled_batch, settled_verdict}
 use Rattle.replay.specs.Effects.{Setting}
 use Rattle.tcam_cli.specs.AllTheWay.{Led, Stands, TakenBack, sets_through}
 use Rattle.tcam_cli.specs.Headline.{is_back}
@@ -15,23 +18,23 @@ use Rattle.tcam_cli.specs.Headline.{is_back}
 abbrev pub sets_judged : Setting → List Bool → List Rule → List Change → List Act → Verdict → List Led
 sets_judged setting backs rules batch acts is =
     elim is [
-      | Accepted ↦ Stands rules ∷ sets_through setting backs (set_after rules batch) [] acts
-      | _ ↦ sets_through setting backs rules [] acts
+      | Accepted ↦ Stands rules ∷ sets_through setting backs (set_after rules batch) [] Nothing acts
+      | _ ↦ sets_through setting backs rules [] Nothing acts
     ]
 
 -- and on a trial, which is taken back or not
 abbrev pub sets_tried : Setting → List Bool → List Rule → List Change → List Act → Bool → List Led
 sets_tried setting backs rules batch acts back =
     elim back [
-      | true ↦ Stands rules ∷ TakenBack (set_after rules batch) ∷ sets_through setting backs rules [] acts
-      | false ↦ Stands rules ∷ sets_through setting backs (set_after rules batch) [] acts
+      | true ↦ Stands rules ∷ TakenBack (set_after rules batch) ∷ sets_through setting backs rules [] Nothing acts
+      | false ↦ Stands rules ∷ sets_through setting backs (set_after rules batch) [] Nothing acts
     ]
 
 abbrev pub trial_judged : Setting → List Bool → List Rule → List Change → List Act → Verdict → List Led
 trial_judged setting backs rules batch acts is =
     elim is [
       | Accepted ↦ sets_tried setting (drop 1 backs) rules batch acts (is_back backs)
-      | _ ↦ sets_through setting backs rules [] acts
+      | _ ↦ sets_through setting backs rules [] Nothing acts
     ]
 
 -- the first set is the one before the acts
@@ -39,37 +42,39 @@ abbrev StartsAt : List Rule → List Led → Type 0
 StartsAt rules sets = (behind : List Led) × (sets ≡ Stands rules ∷ behind)
 
 starts-judged : (setting : Setting) (backs : List Bool) (rules : List Rule) (batch : List Change) (acts : List Act) (is : Verdict)
-    → StartsAt rules (sets_through setting backs rules [] acts) → StartsAt rules (sets_judged setting backs rules batch acts is)
-starts-judged setting backs rules batch acts Accepted more = (sets_through setting backs (set_after rules batch) [] acts, refl)
+    → StartsAt rules (sets_through setting backs rules [] Nothing acts) → StartsAt rules (sets_judged setting backs rules batch acts is)
+starts-judged setting backs rules batch acts Accepted more = (sets_through setting backs (set_after rules batch) [] Nothing acts, refl)
 starts-judged setting backs rules batch acts (Unsound fault) more = more
 starts-judged setting backs rules batch acts (OutOfBits field needed free) more = more
 starts-judged setting backs rules batch acts (OutOfSlots needed free) more = more
 
 starts-back : (setting : Setting) (backs : List Bool) (rules : List Rule) (batch : List Change) (acts : List Act) (back : Bool) → StartsAt rules (sets_tried setting backs rules batch acts back)
-starts-back setting backs rules batch acts true = (TakenBack (set_after rules batch) ∷ sets_through setting backs rules [] acts, refl)
-starts-back setting backs rules batch acts false = (sets_through setting backs (set_after rules batch) [] acts, refl)
+starts-back setting backs rules batch acts true = (TakenBack (set_after rules batch) ∷ sets_through setting backs rules [] Nothing acts, refl)
+starts-back setting backs rules batch acts false = (sets_through setting backs (set_after rules batch) [] Nothing acts, refl)
 
 starts-tried : (setting : Setting) (backs : List Bool) (rules : List Rule) (batch : List Change) (acts : List Act) (is : Verdict)
-    → StartsAt rules (sets_through setting backs rules [] acts) → StartsAt rules (trial_judged setting backs rules batch acts is)
+    → StartsAt rules (sets_through setting backs rules [] Nothing acts) → StartsAt rules (trial_judged setting backs rules batch acts is)
 starts-tried setting backs rules batch acts Accepted more = starts-back setting (drop 1 backs) rules batch acts (is_back backs)
 starts-tried setting backs rules batch acts (Unsound fault) more = more
 starts-tried setting backs rules batch acts (OutOfBits field needed free) more = more
 starts-tried setting backs rules batch acts (OutOfSlots needed free) more = more
 
-starts : (setting : Setting) (backs : List Bool) (rules : List Rule) (batch : List Change) (acts : List Act) → StartsAt rules (sets_through setting backs rules batch acts)
-starts setting backs rules batch [] = ([], refl)
-starts setting backs rules batch (Command change ∷ acts) = starts setting backs rules (batch ++ change ∷ []) acts
-starts setting backs rules batch (Probe key ∷ acts) = starts setting backs rules batch acts
-starts setting backs rules batch (Packet key ∷ acts) = starts setting backs rules batch acts
-starts setting backs rules batch (Commit ∷ acts) =
-    starts-judged setting backs rules batch acts (verdict setting.slots setting.mode rules batch) (starts setting backs rules [] acts)
-starts setting backs rules batch (Trial most ∷ acts) =
-    starts-tried setting backs rules batch acts (verdict setting.slots setting.mode rules batch) (starts setting backs rules [] acts)
-starts setting backs rules batch (Crash after ∷ acts) =
-    starts-judged setting backs rules batch acts (verdict setting.slots setting.mode rules batch) (starts setting backs rules [] acts)
+starts : (setting : Setting) (backs : List Bool) (rules : List Rule) (batch : List Change) (asked : Requested) (acts : List Act) → StartsAt rules (sets_through setting backs rules batch asked acts)
+starts setting backs rules batch asked [] = ([], refl)
+starts setting backs rules batch asked (Command change ∷ acts) = starts setting backs rules (batch_with batch asked change) (asked_with asked change) acts
+starts setting backs rules batch asked (Ask request ∷ acts) = starts setting backs rules (batch_behind batch asked) (asked_behind batch asked request) acts
+starts setting backs rules batch asked (All ∷ acts) = starts setting backs rules [] (Whole []) acts
+starts setting backs rules batch asked (Probe key ∷ acts) = starts setting backs rules batch asked acts
+starts setting backs rules batch asked (Packet key ∷ acts) = starts setting backs rules batch asked acts
+starts setting backs rules batch asked (Commit ∷ acts) =
+    starts-judged setting backs rules (settled_batch rules batch asked) acts (settled_verdict setting.slots setting.mode rules batch asked) (starts setting backs rules [] Nothing acts)
+starts setting backs rules batch asked (Trial most ∷ acts) =
+    starts-tried setting backs rules (settled_batch rules batch asked) acts (settled_verdict setting.slots setting.mode rules batch asked) (starts setting backs rules [] Nothing acts)
+starts setting backs rules batch asked (Crash after ∷ acts) =
+    starts-judged setting backs rules (settled_batch rules batch asked) acts (settled_verdict setting.slots setting.mode rules batch asked) (starts setting backs rules [] Nothing acts)
 
-pub first-set : (setting : Setting) (backs : List Bool) (rules : List Rule) (batch : List Change) (acts : List Act) → slice_get (sets_through setting backs rules batch acts) 0 ≡ Some (Stands rules)
-first-set setting backs rules batch acts = ap (λ sets. slice_get sets 0) (starts setting backs rules batch acts).1
+pub first-set : (setting : Setting) (backs : List Bool) (rules : List Rule) (batch : List Change) (asked : Requested) (acts : List Act) → slice_get (sets_through setting backs rules batch asked acts) 0 ≡ Some (Stands rules)
+first-set setting backs rules batch asked acts = ap (λ sets. slice_get sets 0) (starts setting backs rules batch asked acts).1
 
 -- the sets of some first acts are the first sets
 abbrev pub Continues : List Led → List Led → Type 0
@@ -78,78 +83,83 @@ Continues sets all = (behind : List Led) × (all ≡ sets ++ behind)
 -- so they are, whatever is pending
 abbrev ContinuesWith : Setting → List Act → List Act → Type 0
 ContinuesWith setting acts later =
-    (backs : List Bool) (rules : List Rule) (batch : List Change) → Continues (sets_through setting backs rules batch acts) (sets_through setting backs rules batch (acts ++ later))
+    (backs : List Bool) (rules : List Rule) (batch : List Change) (asked : Requested) → Continues (sets_through setting backs rules batch asked acts) (sets_through setting backs rules batch asked (acts ++ later))
 
 more-judged : (setting : Setting) (backs : List Bool) (rules : List Rule) (batch : List Change) (acts later : List Act) (is : Verdict) → ContinuesWith setting acts later
     → Continues (sets_judged setting backs rules batch acts is) (sets_judged setting backs rules batch (acts ++ later) is)
 more-judged setting backs rules batch acts later Accepted more =
-    let new = more backs (set_after rules batch) [] in (new.0, ap (λ sets. Stands rules ∷ sets) new.1)
-more-judged setting backs rules batch acts later (Unsound fault) more = more backs rules []
-more-judged setting backs rules batch acts later (OutOfBits field needed free) more = more backs rules []
-more-judged setting backs rules batch acts later (OutOfSlots needed free) more = more backs rules []
+    let new = more backs (set_after rules batch) [] Nothing in (new.0, ap (λ sets. Stands rules ∷ sets) new.1)
+more-judged setting backs rules batch acts later (Unsound fault) more = more backs rules [] Nothing
+more-judged setting backs rules batch acts later (OutOfBits field needed free) more = more backs rules [] Nothing
+more-judged setting backs rules batch acts later (OutOfSlots needed free) more = more backs rules [] Nothing
 
 more-back : (setting : Setting) (backs : List Bool) (rules : List Rule) (batch : List Change) (acts later : List Act) (back : Bool) → ContinuesWith setting acts later
     → Continues (sets_tried setting backs rules batch acts back) (sets_tried setting backs rules batch (acts ++ later) back)
 more-back setting backs rules batch acts later true more =
-    let old = more backs rules [] in (old.0, ap (λ sets. Stands rules ∷ TakenBack (set_after rules batch) ∷ sets) old.1)
+    let old = more backs rules [] Nothing in (old.0, ap (λ sets. Stands rules ∷ TakenBack (set_after rules batch) ∷ sets) old.1)
 more-back setting backs rules batch acts later false more =
-    let new = more backs (set_after rules batch) [] in (new.0, ap (λ sets. Stands rules ∷ sets) new.1)
+    let new = more backs (set_after rules batch) [] Nothing in (new.0, ap (λ sets. Stands rules ∷ sets) new.1)
 
 more-tried : (setting : Setting) (backs : List Bool) (rules : List Rule) (batch : List Change) (acts later : List Act) (is : Verdict) → ContinuesWith setting acts later
     → Continues (trial_judged setting backs rules batch acts is) (trial_judged setting backs rules batch (acts ++ later) is)
 more-tried setting backs rules batch acts later Accepted more = more-back setting (drop 1 backs) rules batch acts later (is_back backs) more
-more-tried setting backs rules batch acts later (Unsound fault) more = more backs rules []
-more-tried setting backs rules batch acts later (OutOfBits field needed free) more = more backs rules []
-more-tried setting backs rules batch acts later (OutOfSlots needed free) more = more backs rules []
+more-tried setting backs rules batch acts later (Unsound fault) more = more backs rules [] Nothing
+more-tried setting backs rules batch acts later (OutOfBits field needed free) more = more backs rules [] Nothing
+more-tried setting backs rules batch acts later (OutOfSlots needed free) more = more backs rules [] Nothing
 
 more-sets-from : (setting : Setting) (acts later : List Act) → ContinuesWith setting acts later
-more-sets-from setting [] later backs rules batch = starts setting backs rules batch later
-more-sets-from setting (Command change ∷ acts) later backs rules batch = more-sets-from setting acts later backs rules (batch ++ change ∷ [])
-more-sets-from setting (Probe key ∷ acts) later backs rules batch = more-sets-from setting acts later backs rules batch
-more-sets-from setting (Packet key ∷ acts) later backs rules batch = more-sets-from setting acts later backs rules batch
-more-sets-from setting (Commit ∷ acts) later backs rules batch =
-    more-judged setting backs rules batch acts later (verdict setting.slots setting.mode rules batch) (more-sets-from setting acts later)
-more-sets-from setting (Trial most ∷ acts) later backs rules batch =
-    more-tried setting backs rules batch acts later (verdict setting.slots setting.mode rules batch) (more-sets-from setting acts later)
-more-sets-from setting (Crash after ∷ acts) later backs rules batch =
-    more-judged setting backs rules batch acts later (verdict setting.slots setting.mode rules batch) (more-sets-from setting acts later)
+more-sets-from setting [] later backs rules batch asked = starts setting backs rules batch asked later
+more-sets-from setting (Command change ∷ acts) later backs rules batch asked = more-sets-from setting acts later backs rules (batch_with batch asked change) (asked_with asked change)
+more-sets-from setting (Ask request ∷ acts) later backs rules batch asked = more-sets-from setting acts later backs rules (batch_behind batch asked) (asked_behind batch asked request)
+more-sets-from setting (All ∷ acts) later backs rules batch asked = more-sets-from setting acts later backs rules [] (Whole [])
+more-sets-from setting (Probe key ∷ acts) later backs rules batch asked = more-sets-from setting acts later backs rules batch asked
+more-sets-from setting (Packet key ∷ acts) later backs rules batch asked = more-sets-from setting acts later backs rules batch asked
+more-sets-from setting (Commit ∷ acts) later backs rules batch asked =
+    more-judged setting backs rules (settled_batch rules batch asked) acts later (settled_verdict setting.slots setting.mode rules batch asked) (more-sets-from setting acts later)
+more-sets-from setting (Trial most ∷ acts) later backs rules batch asked =
+    more-tried setting backs rules (settled_batch rules batch asked) acts later (settled_verdict setting.slots setting.mode rules batch asked) (more-sets-from setting acts later)
+more-sets-from setting (Crash after ∷ acts) later backs rules batch asked =
+    more-judged setting backs rules (settled_batch rules batch asked) acts later (settled_verdict setting.slots setting.mode rules batch asked) (more-sets-from setting acts later)
 
-pub more-sets : (setting : Setting) (backs : List Bool) (rules : List Rule) (batch : List Change) (acts later : List Act)
-    → Continues (sets_through setting backs rules batch acts) (sets_through setting backs rules batch (acts ++ later))
-more-sets setting backs rules batch acts later = more-sets-from setting acts later backs rules batch
+pub more-sets : (setting : Setting) (backs : List Bool) (rules : List Rule) (batch : List Change) (asked : Requested) (acts later : List Act)
+    → Continues (sets_through setting backs rules batch asked acts) (sets_through setting backs rules batch asked (acts ++ later))
+more-sets setting backs rules batch asked acts later = more-sets-from setting acts later backs rules batch asked
 
 -- ---- a commit that crashes leads through the sets of a commit
 
 abbrev SetsSame : Setting → List Act → List Act → Type 0
-SetsSame setting one other = (backs : List Bool) (rules : List Rule) (batch : List Change) → sets_through setting backs rules batch one ≡ sets_through setting backs rules batch other
+SetsSame setting one other =
+    (backs : List Bool) (rules : List Rule) (batch : List Change) (asked : Requested) → sets_through setting backs rules batch asked one ≡ sets_through setting backs rules batch asked other
 
 same-judged : (setting : Setting) (backs : List Bool) (rules : List Rule) (batch : List Change) (one other : List Act) (is : Verdict) → SetsSame setting one other
     → sets_judged setting backs rules batch one is ≡ sets_judged setting backs rules batch other is
-same-judged setting backs rules batch one other Accepted same = ap (λ sets. Stands rules ∷ sets) (same backs (set_after rules batch) [])
-same-judged setting backs rules batch one other (Unsound fault) same = same backs rules []
-same-judged setting backs rules batch one other (OutOfBits field needed free) same = same backs rules []
-same-judged setting backs rules batch one other (OutOfSlots needed free) same = same backs rules []
+same-judged setting backs rules batch one other Accepted same = ap (λ sets. Stands rules ∷ sets) (same backs (set_after rules batch) [] Nothing)
+same-judged setting backs rules batch one other (Unsound fault) same = same backs rules [] Nothing
+same-judged setting backs rules batch one other (OutOfBits field needed free) same = same backs rules [] Nothing
+same-judged setting backs rules batch one other (OutOfSlots needed free) same = same backs rules [] Nothing
 
 same-back : (setting : Setting) (backs : List Bool) (rules : List Rule) (batch : List Change) (one other : List Act) (back : Bool) → SetsSame setting one other
     → sets_tried setting backs rules batch one back ≡ sets_tried setting backs rules batch other back
-same-back setting backs rules batch one other true same = ap (λ sets. Stands rules ∷ TakenBack (set_after rules batch) ∷ sets) (same backs rules [])
-same-back setting backs rules batch one other false same = ap (λ sets. Stands rules ∷ sets) (same backs (set_after rules batch) [])
+same-back setting backs rules batch one other true same = ap (λ sets. Stands rules ∷ TakenBack (set_after rules batch) ∷ sets) (same backs rules [] Nothing)
+same-back setting backs rules batch one other false same = ap (λ sets. Stands rules ∷ sets) (same backs (set_after rules batch) [] Nothing)
 
 same-tried : (setting : Setting) (backs : List Bool) (rules : List Rule) (batch : List Change) (one other : List Act) (is : Verdict) → SetsSame setting one other
     → trial_judged setting backs rules batch one is ≡ trial_judged setting backs rules batch other is
 same-tried setting backs rules batch one other Accepted same = same-back setting (drop 1 backs) rules batch one other (is_back backs) same
-same-tried setting backs rules batch one other (Unsound fault) same = same backs rules []
-same-tried setting backs rules batch one other (OutOfBits field needed free) same = same backs rules []
-same-tried setting backs rules batch one other (OutOfSlots needed free) same = same backs rules []
+same-tried setting backs rules batch one other (Unsound fault) same = same backs rules [] Nothing
+same-tried setting backs rules batch one other (OutOfBits field needed free) same = same backs rules [] Nothing
+same-tried setting backs rules batch one other (OutOfSlots needed free) same = same backs rules [] Nothing
 
 pub same-sets : (setting : Setting) (done : List Act) (after : ℕ) (behind : List Act) → SetsSame setting (done ++ Commit ∷ behind) (done ++ Crash after ∷ behind)
-same-sets setting [] after behind backs rules batch = refl
-same-sets setting (Command change ∷ done) after behind backs rules batch = same-sets setting done after behind backs rules (batch ++ change ∷ [])
-same-sets setting (Probe key ∷ done) after behind backs rules batch = same-sets setting done after behind backs rules batch
-same-sets setting (Packet key ∷ done) after behind backs rules batch = same-sets setting done after behind backs rules batch
-same-sets setting (Commit ∷ done) after behind backs rules batch =
-    same-judged setting backs rules batch (done ++ Commit ∷ behind) (done ++ Crash after ∷ behind) (verdict setting.slots setting.mode rules batch) (same-sets setting done after behind)
-same-sets setting (Trial most ∷ done) after behind backs rules batch =
-    same-tried setting backs rules batch (done ++ Commit ∷ behind) (done ++ Crash after ∷ behind) (verdict setting.slots setting.mode rules batch) (same-sets setting done after behind)
-same-sets setting (Crash limit ∷ done) after behind backs rules batch =
-    same-judged setting backs rules batch (done ++ Commit ∷ behind) (done ++ Crash after ∷ behind) (verdict setting.slots setting.mode rules batch) (same-sets setting done after behind)
+same-sets setting [] after behind backs rules batch asked = refl
+same-sets setting (Command change ∷ done) after behind backs rules batch asked = same-sets setting done after behind backs rules (batch_with batch asked change) (asked_with asked change)
+same-sets setting (Ask request ∷ done) after behind backs rules batch asked = same-sets setting done after behind backs rules (batch_behind batch asked) (asked_behind batch asked request)
+same-sets setting (All ∷ done) after behind backs rules batch asked = same-sets setting done after behind backs rules [] (Whole [])
+same-sets setting (Probe key ∷ done) after behind backs rules batch asked = same-sets setting done after behind backs rules batch asked
+same-sets setting (Packet key ∷ done) after behind backs rules batch asked = same-sets setting done after behind backs rules batch asked
+same-sets setting (Commit ∷ done) after behind backs rules batch asked =
+    same-judged setting backs rules (settled_batch rules batch asked) (done ++ Commit ∷ behind) (done ++ Crash after ∷ behind) (settled_verdict setting.slots setting.mode rules batch asked) (same-sets setting done after behind)
+same-sets setting (Trial most ∷ done) after behind backs rules batch asked =
+    same-tried setting backs rules (settled_batch rules batch asked) (done ++ Commit ∷ behind) (done ++ Crash after ∷ behind) (settled_verdict setting.slots setting.mode rules batch asked) (same-sets setting done after behind)
+same-sets setting (Crash limit ∷ done) after behind backs rules batch asked =
+    same-judged setting backs rules (settled_batch rules batch asked) (done ++ Commit ∷ behind) (done ++ Crash after ∷ behind) (settled_verdict setting.slots setting.mode rules batch asked) (same-sets setting done after behind)

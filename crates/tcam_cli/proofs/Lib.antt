@@ -3,9 +3,10 @@ pub mod NumbersTaken
 mod Words
 mod Ipv6Lines
 mod TracedLines
+mod TracedWords
 pub mod ToldLines
 mod Kind
-mod OneMore
+pub mod OneMore
 mod Decided
 mod Outcomes
 mod MadeRuns

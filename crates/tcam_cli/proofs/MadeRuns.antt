@@ -1,9 +1,9 @@
 -- A run over made commands.
-use Rattle.std.proofs.Common.{◌≡◌, ◌≢◌, ℕ, ◌<◌, ◌≤◌, ◌==◌, Bool, true, false, Option, Some, None, Result, List, [], ◌∷◌, ◌++◌, map, refl, ap, sym, ◌∙◌, subst, append_assoc, append-nil, arith}
+use Rattle.std.proofs.Common.{◌≡◌, ◌≢◌, ℕ, ◌<◌, ◌≤◌, nat_le, Bool, true, false, Option, Some, None, Result, List, [], ◌∷◌, ◌++◌, map, refl, ap, sym, ◌∙◌, subst, append_assoc, append-nil, arith}
 use Rattle.std.specs.Prelude.{codes}
 use Rattle.std.specs.Io.KnownBytes.{Appends}
 use Rattle.std.proofs.KnownBytes.{Appends-nil}
-use Rattle.std.proofs.lemmas.Bool.{false_from_ne_true, eqb-true}
+use Rattle.std.proofs.lemmas.Bool.{false_from_ne_true, leb-true}
 use Rattle.tcam_device.specs.declared.Action.{Action}
 use Rattle.rule_gen.specs.declared.Made.{Made}
 use Rattle.rule_gen.specs.declared.Made.TheVariants as made
@@ -50,8 +50,8 @@ never-crash made.Commit crash = crash
 
 -- ---- there is room
 
-room : (come : ℕ) → come < most_pending → (come == most_pending) ≡ false
-room come few = false_from_ne_true _ (λ same. let is = eqb-true come most_pending same in omega (arith, is, few))
+room : (come : ℕ) → come < most_pending → nat_le most_pending come ≡ false
+room come few = false_from_ne_true _ (λ over. let least = leb-true most_pending come over in omega (arith, least, few))
 
 pub made-room : (most : ℕ) (command : Made) (left : List Made) (come probes : ℕ) → AreBatches most come (command ∷ left) → most ≤ most_pending
     → limit_fault (made_act command) come probes ≡ None

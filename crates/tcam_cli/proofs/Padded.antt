@@ -6,7 +6,6 @@ use Rattle.rule_model.specs.AddressBlock.{ipv4_block}
 use Rattle.rule_model.specs.Rank.{ipv4_route_rank}
 use Rattle.rule_model.specs.Rule.{route_rule}
 use Rattle.rule_store.specs.declared.Command.TheVariants.{Add}
-use Rattle.rule_store.specs.Verdict.{verdict}
 use Rattle.rule_model.specs.declared.words.Entry.{Entry}
 use Rattle.tcam_device.specs.declared.Write.TheVariants.{Slot}
 use Rattle.tcam_device.specs.declared.Action.TheVariants.{Written}
@@ -17,7 +16,7 @@ use Rattle.rule_store.specs.declared.Mode.TheVariants.{Cover}
 use Rattle.batch_order.specs.declared.Placement.TheVariants.{Middle}
 use Rattle.report_lines.specs.declared.Family.TheVariants.{Route}
 use Rattle.replay.specs.Effects.{Setting, Effect, Prints, journal_of}
-use Rattle.replay.specs.Run.{Progress, Commits, Judged, start, used_slots}
+use Rattle.replay.specs.Run.{Progress, Commits, Settles, start, used_slots}
 use Rattle.replay.proofs.lines.Effects.{written-append}
 use Rattle.replay.proofs.lines.Written.{written-segment}
 use Rattle.script_runs.specs.declared.Status.TheVariants.{Done}
@@ -38,9 +37,8 @@ one-commit effects new commits =
     ap journal_of commits.effects_are ∙ written-segment setting pending commits.made _ in
     ap length made ∙ one-write setting.placement Cover no_bits pending.batch (used_slots setting pending.state) commits.made refl refl refl commits.placed
 
-judged : (before : Progress) (effects : List Effect) (new : Progress) → before ≡ pending → Judged Commits setting before (verdict setting.slots setting.mode before.rules before.batch) effects new → length (journal_of effects) ≡ 1
-judged before effects new is commits =
-    one-commit effects new (subst (λ (p : Progress). Judged Commits setting p (verdict setting.slots setting.mode p.rules p.batch) effects new) is commits)
+judged : (before : Progress) (effects : List Effect) (new : Progress) → before ≡ pending → Settles Commits setting before effects new → length (journal_of effects) ≡ 1
+judged before effects new is commits = one-commit effects new (subst (λ (p : Progress). Settles Commits setting p effects new) is commits)
 
 -- the entry goes into one slot, and is moved once more
 padded : (entry : Entry) → IsCarriedOut (Reads setting) 8 Done (Some (codes "route add 10.0.0.0/8 7" ++ 10 ∷ codes "commit")) (Some []) (Some []) (Some []) (Written (Slot 2 (Some entry)) ∷ Written (Slot 3 (Some entry)) ∷ Written (Slot 2 None) ∷ []) → ⊥

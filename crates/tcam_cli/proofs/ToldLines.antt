@@ -1,5 +1,5 @@
 -- What a line that was read is in a report in JSON: a command of a trace, or a fault whose text stands as it is.
-use Rattle.std.proofs.Common.{◌≡◌, ◌⊎◌, Bool, true, false, ℕ, inl, inr, List, codes, Option, Some, None, IfSome, Result, Ok, Err, IfOk, IfErr, refl, subst}
+use Rattle.std.proofs.Common.{◌≡◌, Bool, true, false, ℕ, List, codes, Option, Some, None, IfSome, Result, Ok, Err, IfOk, IfErr, refl, subst}
 use Rattle.rule_model.specs.declared.IpVersion.{IpVersion}
 use Rattle.rule_model.specs.declared.IpVersion.TheVariants.{V4, V6}
 use Rattle.packet_keys.specs.declared.FrameFault.TheVariants as frame
@@ -18,11 +18,12 @@ use Rattle.acl_reader.specs.Grammar.{acl_line}
 use Rattle.trace_file.specs.Forms.{IsTraceLineOf}
 use Rattle.json_text.specs.JsonText.{IsPlainText}
 use Rattle.replay.specs.declared.Act.{Act}
-use Rattle.replay.specs.declared.Act.TheVariants.{Command, Probe, Packet, Commit, Trial, Crash}
+use Rattle.replay.specs.declared.Act.TheVariants.{Command, Ask, All, Probe, Packet, Commit, Trial, Crash}
 use Rattle.report_lines.specs.declared.Family.{Family}
 use Rattle.report_lines.specs.declared.Family.TheVariants.{Route, Acl, Route6, Acl6}
 use Rattle.replay.specs.Effects.{Setting}
 use Rattle.report_lines.specs.Text.{family_version}
+use Rattle.settled_changes.specs.Requested.{strict_form}
 use Rattle.replay.specs.JsonLines.{change_line}
 use Rattle.replay.specs.Running.{IsToldIn}
 use Rattle.tcam_cli.specs.Readings.{acl_act, acl_reading, common_act, line_told_by, reading, reading_by, reading_of, route_act, route_reading, told_by}
@@ -30,9 +31,11 @@ use Rattle.tcam_cli.proofs.TracedLines.{IsListWithin, IsRouteWithin, list-line, 
 
 -- ---- commands
 
--- a command whose line is one of a trace of this version; of an act of another kind nothing is said
+-- a command whose line is one of a trace of this version, or a request for the same; of an act of another kind nothing is said
 abbrev pub IsTraced : IpVersion → Act → Type 0
 IsTraced version (Command change) = IsTraceLineOf version (change_line change)
+IsTraced version (Ask request) = IsTraceLineOf version (change_line (strict_form request))
+IsTraced version All = Unit {0}
 IsTraced version (Probe key) = Unit {0}
 IsTraced version (Packet key) = Unit {0}
 IsTraced version Commit = Unit {0}
@@ -50,12 +53,18 @@ route-traced : (version : IpVersion) (command : RouteCommand) → IsRouteWithin 
 route-traced version (route.Add block answer) within = within
 route-traced version (route.Set block answer) within = within
 route-traced version (route.Del block) within = within
+route-traced version (route.Put block answer) within = within
+route-traced version (route.Drop block) within = within
+route-traced version route.All within = tt
 route-traced version (route.Common command) within = common-traced version command
 
 list-traced : (version : IpVersion) (command : AclCommand) → IsListWithin version command → IsTraced version (acl_act command)
 list-traced version (acl.Add rule) within = within
 list-traced version (acl.Set sequence answer) within = within
 list-traced version (acl.Del sequence) within = within
+list-traced version (acl.Put rule) within = within
+list-traced version (acl.Drop sequence) within = within
+list-traced version acl.All within = tt
 list-traced version (acl.Common command) within = common-traced version command
 
 -- what a reader's command is
@@ -97,6 +106,12 @@ told-act : (json : Bool) (version : IpVersion) (act : Act) (found : Option Act) 
 told-act json version (Command change) found line is =
     let same : Some (Command change) ≡ found = cc in
     subst (λ (one : Option Act). IfSome one (IsToldIn json version)) same line
+told-act json version (Ask request) found line is =
+    let same : Some (Ask request) ≡ found = cc in
+    subst (λ (one : Option Act). IfSome one (IsToldIn json version)) same line
+told-act json version All found line is =
+    let same : Some All ≡ found = cc in
+    subst (λ (one : Option Act). IfSome one (IsToldIn json version)) same tt
 told-act json version (Probe key) found line is =
     let same : Some (Probe key) ≡ found = cc in
     subst (λ (one : Option Act). IfSome one (IsToldIn json version)) same tt
@@ -166,6 +181,8 @@ plain-words false act text is = absurd (cc)
 
 plain-told : (json : Bool) (act : Act) (text : List ℕ) → told_by json act ≡ Err text → IsPlainText text
 plain-told json (Command change) text is = absurd (cc)
+plain-told json (Ask request) text is = absurd (cc)
+plain-told json All text is = absurd (cc)
 plain-told json (Probe key) text is = absurd (cc)
 plain-told json (Packet key) text is = absurd (cc)
 plain-told json Commit text is = absurd (cc)

@@ -5,12 +5,15 @@ use Rattle.std.specs.List.{AllByRecursion}
 use Rattle.rule_model.specs.declared.Rule.{Rule}
 use Rattle.rule_store.specs.declared.Command.{Command as Change}
 use Rattle.rule_store.specs.Batch.{set_after}
-use Rattle.rule_store.specs.Verdict.{Accepted, verdict}
+use Rattle.rule_store.specs.Verdict.{Accepted}
 use Rattle.tcam_device.specs.declared.Write.{Write}
 use Rattle.tcam_device.specs.State.{State, blank, Shows, state_after}
 use Rattle.tcam_device.specs.Hitless.{ShowsOldOrNew}
 use Rattle.replay.specs.declared.Act.{Act}
-use Rattle.replay.specs.declared.Act.TheVariants.{Command, Probe, Packet, Commit, Trial, Crash}
+use Rattle.replay.specs.declared.Act.TheVariants.{Command, Ask, All, Probe, Packet, Commit, Trial, Crash}
+use Rattle.settled_changes.specs.declared.requested.Requested.{Requested}
+use Rattle.settled_changes.specs.declared.requested.Requested.TheVariants.{Nothing, Whole}
+use Rattle.settled_changes.specs.Requested.{asked_behind, asked_with, batch_behind, batch_with, settled_batch, settled_verdict}
 use Rattle.replay.specs.Fates.{IsCrash}
 use Rattle.replay.specs.Script.{Script, script_of}
 use Rattle.replay.specs.Effects.{Setting}
@@ -37,35 +40,38 @@ abbrev pub set_at : List Led → ℕ → Option (List Rule)
 set_at sets place = option_map rules_in (slice_get sets place)
 
 -- The sets that acts lead through, by the rule lists and by which accepted trials are taken back: the first, one more
--- for each accepted commit, and for a trial that is taken back the new set and then the old one again.
-abbrev pub sets_through : Setting → List Bool → List Rule → List Change → List Act → List Led
-sets_through setting backs rules batch [] = Stands rules ∷ []
-sets_through setting backs rules batch (Command change ∷ acts) = sets_through setting backs rules (batch ++ change ∷ []) acts
-sets_through setting backs rules batch (Probe key ∷ acts) = sets_through setting backs rules batch acts
-sets_through setting backs rules batch (Packet key ∷ acts) = sets_through setting backs rules batch acts
-sets_through setting backs rules batch (Commit ∷ acts) =
-    elim (verdict setting.slots setting.mode rules batch) [
-      | Accepted ↦ Stands rules ∷ sets_through setting backs (set_after rules batch) [] acts
-      | _ ↦ sets_through setting backs rules [] acts
+-- for each accepted commit, and for a trial that is taken back the new set and then the old one again. What is pending is a
+-- batch, and what is asked for beside it; a commit settles it.
+abbrev pub sets_through : Setting → List Bool → List Rule → List Change → Requested → List Act → List Led
+sets_through setting backs rules batch asked [] = Stands rules ∷ []
+sets_through setting backs rules batch asked (Command change ∷ acts) = sets_through setting backs rules (batch_with batch asked change) (asked_with asked change) acts
+sets_through setting backs rules batch asked (Ask request ∷ acts) = sets_through setting backs rules (batch_behind batch asked) (asked_behind batch asked request) acts
+sets_through setting backs rules batch asked (All ∷ acts) = sets_through setting backs rules [] (Whole []) acts
+sets_through setting backs rules batch asked (Probe key ∷ acts) = sets_through setting backs rules batch asked acts
+sets_through setting backs rules batch asked (Packet key ∷ acts) = sets_through setting backs rules batch asked acts
+sets_through setting backs rules batch asked (Commit ∷ acts) =
+    elim (settled_verdict setting.slots setting.mode rules batch asked) [
+      | Accepted ↦ Stands rules ∷ sets_through setting backs (set_after rules (settled_batch rules batch asked)) [] Nothing acts
+      | _ ↦ sets_through setting backs rules [] Nothing acts
     ]
-sets_through setting backs rules batch (Trial most ∷ acts) =
-    elim (verdict setting.slots setting.mode rules batch) [
+sets_through setting backs rules batch asked (Trial most ∷ acts) =
+    elim (settled_verdict setting.slots setting.mode rules batch asked) [
       | Accepted ↦
           elim (is_back backs) [
-            | true ↦ Stands rules ∷ TakenBack (set_after rules batch) ∷ sets_through setting (drop 1 backs) rules [] acts
-            | false ↦ Stands rules ∷ sets_through setting (drop 1 backs) (set_after rules batch) [] acts
+            | true ↦ Stands rules ∷ TakenBack (set_after rules (settled_batch rules batch asked)) ∷ sets_through setting (drop 1 backs) rules [] Nothing acts
+            | false ↦ Stands rules ∷ sets_through setting (drop 1 backs) (set_after rules (settled_batch rules batch asked)) [] Nothing acts
           ]
-      | _ ↦ sets_through setting backs rules [] acts
+      | _ ↦ sets_through setting backs rules [] Nothing acts
     ]
-sets_through setting backs rules batch (Crash after ∷ acts) =
-    elim (verdict setting.slots setting.mode rules batch) [
-      | Accepted ↦ Stands rules ∷ sets_through setting backs (set_after rules batch) [] acts
-      | _ ↦ sets_through setting backs rules [] acts
+sets_through setting backs rules batch asked (Crash after ∷ acts) =
+    elim (settled_verdict setting.slots setting.mode rules batch asked) [
+      | Accepted ↦ Stands rules ∷ sets_through setting backs (set_after rules (settled_batch rules batch asked)) [] Nothing acts
+      | _ ↦ sets_through setting backs rules [] Nothing acts
     ]
 
 -- the sets that a script leads a blank device through: the empty one first
 abbrev pub sets_of : Setting → List Bool → Script → List Led
-sets_of setting backs script = sets_through setting backs [] [] (acts_of script)
+sets_of setting backs script = sets_through setting backs [] [] Nothing (acts_of script)
 
 -- every key has the answer of the set at this place, or of the next one, where there is one
 abbrev pub ShowsSetOrNext : State → List Led → ℕ → Type 0
@@ -107,9 +113,9 @@ pub record EndsAfter (state : State) (setting : Setting) (backs : List Bool) (sc
   pub later : List Act
   pub acts : acts_of script ≡ done ++ later
   pub behind : List Led
-  pub sets : sets_of setting backs script ≡ sets_through setting backs [] [] done ++ behind
-  pub answers : AnswersAllTheWay state (sets_through setting backs [] [] done) writes
-  pub ends : EndsAtLast state (sets_through setting backs [] [] done) writes
+  pub sets : sets_of setting backs script ≡ sets_through setting backs [] [] Nothing done ++ behind
+  pub answers : AnswersAllTheWay state (sets_through setting backs [] [] Nothing done) writes
+  pub ends : EndsAtLast state (sets_through setting backs [] [] Nothing done) writes
 
 -- some first acts of the script are carried out whole: all, none, or any number of them
 abbrev pub EndsAfterSome : State → Setting → List Bool → Script → List Write → Type 0
@@ -118,6 +124,8 @@ EndsAfterSome state setting backs script writes = (done : List Act) × EndsAfter
 -- an act that has no line written after a write
 abbrev pub IsNoProbe : Act → Type 0
 IsNoProbe (Command change) = Unit {0}
+IsNoProbe (Ask request) = Unit {0}
+IsNoProbe All = Unit {0}
 IsNoProbe (Probe key) = ⊥
 IsNoProbe (Packet key) = Unit {0}
 IsNoProbe Commit = Unit {0}

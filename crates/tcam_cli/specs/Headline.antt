@@ -16,14 +16,17 @@ use Rattle.script_runs.specs.Outcomes.{RunKind, IsPrinted, TakesFrom, status_at}
 use Rattle.rule_model.specs.declared.Rule.{Rule}
 use Rattle.rule_store.specs.declared.Command.{Command as Change}
 use Rattle.rule_store.specs.Batch.{set_after}
-use Rattle.rule_store.specs.Verdict.{Accepted, verdict}
+use Rattle.rule_store.specs.Verdict.{Accepted}
 use Rattle.tcam_device.specs.declared.Write.{Write}
 use Rattle.tcam_device.specs.declared.Action.{Action}
 use Rattle.tcam_device.specs.declared.Action.TheVariants.{Written}
 use Rattle.tcam_device.specs.View.{DeviceView, journal}
 use Rattle.batch_order.specs.CarriedOut.{IsTried}
 use Rattle.replay.specs.declared.Act.{Act}
-use Rattle.replay.specs.declared.Act.TheVariants.{Command, Probe, Packet, Commit, Trial, Crash}
+use Rattle.replay.specs.declared.Act.TheVariants.{Command, Ask, All, Probe, Packet, Commit, Trial, Crash}
+use Rattle.settled_changes.specs.declared.requested.Requested.{Requested}
+use Rattle.settled_changes.specs.declared.requested.Requested.TheVariants.{Nothing, Whole}
+use Rattle.settled_changes.specs.Requested.{asked_behind, asked_with, batch_behind, batch_with, changes_in, settled_batch, settled_verdict}
 use Rattle.replay.specs.Script.{Script, Reading, script_kind, script_of}
 use Rattle.report_lines.specs.Text.{usage_line, fault_line}
 use Rattle.replay.specs.Text.{yes_line, no_line}
@@ -57,7 +60,7 @@ abbrev pub run_kind : Setting → ℕ → RunKind Act (ℕ × ℕ) Progress Effe
 run_kind setting device_slots =
     record {
       scripts = script_kind (reading_by setting);
-      counted = λ progress. (length progress.batch, length progress.probes);
+      counted = λ progress. (changes_in progress.batch progress.asked, length progress.probes);
       start = start device_slots;
       Step = HasEffects setting;
       IsCutStep = IsCutStep setting;
@@ -155,29 +158,31 @@ is_back [] = false
 is_back (back ∷ backs) = back
 
 -- whether a commit of the acts is refused, by the rule lists alone and by which accepted trials are taken back: the set
--- before the acts and the batch that is pending
-abbrev pub any_refused : Setting → List Bool → List Rule → List Change → List Act → Bool
-any_refused setting backs rules batch [] = false
-any_refused setting backs rules batch (Command change ∷ acts) = any_refused setting backs rules (batch ++ change ∷ []) acts
-any_refused setting backs rules batch (Probe key ∷ acts) = any_refused setting backs rules batch acts
-any_refused setting backs rules batch (Packet key ∷ acts) = any_refused setting backs rules batch acts
-any_refused setting backs rules batch (Commit ∷ acts) =
-    elim (verdict setting.slots setting.mode rules batch) [
-      | Accepted ↦ any_refused setting backs (set_after rules batch) [] acts
+-- before the acts, the batch that is pending, and what is asked for beside it
+abbrev pub any_refused : Setting → List Bool → List Rule → List Change → Requested → List Act → Bool
+any_refused setting backs rules batch asked [] = false
+any_refused setting backs rules batch asked (Command change ∷ acts) = any_refused setting backs rules (batch_with batch asked change) (asked_with asked change) acts
+any_refused setting backs rules batch asked (Ask request ∷ acts) = any_refused setting backs rules (batch_behind batch asked) (asked_behind batch asked request) acts
+any_refused setting backs rules batch asked (All ∷ acts) = any_refused setting backs rules [] (Whole []) acts
+any_refused setting backs rules batch asked (Probe key ∷ acts) = any_refused setting backs rules batch asked acts
+any_refused setting backs rules batch asked (Packet key ∷ acts) = any_refused setting backs rules batch asked acts
+any_refused setting backs rules batch asked (Commit ∷ acts) =
+    elim (settled_verdict setting.slots setting.mode rules batch asked) [
+      | Accepted ↦ any_refused setting backs (set_after rules (settled_batch rules batch asked)) [] Nothing acts
       | _ ↦ true
     ]
-any_refused setting backs rules batch (Trial most ∷ acts) =
-    elim (verdict setting.slots setting.mode rules batch) [
+any_refused setting backs rules batch asked (Trial most ∷ acts) =
+    elim (settled_verdict setting.slots setting.mode rules batch asked) [
       | Accepted ↦
           elim (is_back backs) [
-            | true ↦ any_refused setting (drop 1 backs) rules [] acts
-            | false ↦ any_refused setting (drop 1 backs) (set_after rules batch) [] acts
+            | true ↦ any_refused setting (drop 1 backs) rules [] Nothing acts
+            | false ↦ any_refused setting (drop 1 backs) (set_after rules (settled_batch rules batch asked)) [] Nothing acts
           ]
       | _ ↦ true
     ]
-any_refused setting backs rules batch (Crash after ∷ acts) =
-    elim (verdict setting.slots setting.mode rules batch) [
-      | Accepted ↦ any_refused setting backs (set_after rules batch) [] acts
+any_refused setting backs rules batch asked (Crash after ∷ acts) =
+    elim (settled_verdict setting.slots setting.mode rules batch asked) [
+      | Accepted ↦ any_refused setting backs (set_after rules (settled_batch rules batch asked)) [] Nothing acts
       | _ ↦ true
     ]
 
@@ -185,7 +190,7 @@ any_refused setting backs rules batch (Crash after ∷ acts) =
 abbrev pub decided : Setting → List Bool → Script → Status
 decided setting backs script =
     elim script.last [
-      | Whole ↦ elim (any_refused setting backs [] [] (acts_of script)) [ true ↦ Refused | false ↦ Done ]
+      | Whole ↦ elim (any_refused setting backs [] [] Nothing (acts_of script)) [ true ↦ Refused | false ↦ Done ]
       | FaultAt line text ↦ ScriptFault
     ]
 

@@ -19,6 +19,7 @@ help_text = codes "tcam: the table manager of a ternary content-addressable memo
     ++ 10 ∷ codes "                                   changes of an access list, made from SEED"
     ++ 10 ∷ codes "    tcam verify < FILE             a check of a trace of device writes"
     ++ 10 ∷ codes "    tcam draw [OPTIONS] < TRACE    a picture of a trace's commits, as an SVG"
+    ++ 10 ∷ codes "    tcam import FORMAT [OPTIONS]   a script of what another program prints"
     ++ 10 ∷ codes "    tcam route --help              the commands of a script of routes"
     ++ 10 ∷ codes "    tcam acl --help                the commands of a script of an access list"
     ++ 10 ∷ codes "    tcam route6 --help             those of a script of IPv6 routes"
@@ -27,6 +28,7 @@ help_text = codes "tcam: the table manager of a ternary content-addressable memo
     ++ 10 ∷ codes "    tcam gen --help                what SEED, RULES and BATCHES make"
     ++ 10 ∷ codes "    tcam verify --help             the lines of a trace, and what is told of it"
     ++ 10 ∷ codes "    tcam draw --help               what a picture shows, and of which commits"
+    ++ 10 ∷ codes "    tcam import --help             the formats that are read, and their options"
     ++ 10 ∷ codes "    tcam --help                    this text"
     ++ 10 ∷ codes "    tcam --version                 name and version"
     ++ 10 ∷ 10 ∷ codes "Options:"
@@ -134,6 +136,9 @@ route_help_of command rules named = codes "tcam " ++ command ++ codes ": carries
     ++ 10 ∷ codes "                               unless a route of a longer prefix holds"
     ++ 10 ∷ codes "    route set PREFIX RESULT    the route of this prefix gives RESULT"
     ++ 10 ∷ codes "    route del PREFIX           the route of this prefix goes"
+    ++ 10 ∷ codes "    route put PREFIX RESULT    the prefix gets RESULT, whether it stood or not"
+    ++ 10 ∷ codes "    route drop PREFIX          the prefix goes, whether it stood or not"
+    ++ 10 ∷ codes "    route all                  the changes up to the commit are the whole set"
     ++ 10 ∷ script_commands named
     ++ 10 ∷ 10 ∷ codes "    PREFIX         an address, / and a length, as " ++ named.prefix ++ codes " or " ++ named.host
     ++ 10 ∷ codes "    RESULT         a number up to 4294967295"
@@ -169,6 +174,9 @@ acl_help_of command rules named = codes "tcam " ++ command ++ codes ": carries o
     ++ 10 ∷ codes "                               get ACTION, unless a rule of lower SEQ holds"
     ++ 10 ∷ codes "    acl set SEQ ACTION         the rule of this number gives ACTION"
     ++ 10 ∷ codes "    acl del SEQ                the rule of this number goes"
+    ++ 10 ∷ codes "    acl put SEQ ..             as acl add, whether the number stood or not"
+    ++ 10 ∷ codes "    acl drop SEQ               the number goes, whether it stood or not"
+    ++ 10 ∷ codes "    acl all                    the changes up to the commit are the whole list"
     ++ 10 ∷ script_commands named
     ++ 10 ∷ 10 ∷ codes "    SEQ            the rule's place in the list, from 1 to 4294967295"
     ++ 10 ∷ codes "    ACTION         permit, deny or =NUMBER"

@@ -5,6 +5,7 @@ use Rattle.rule_model.specs.declared.IpVersion.TheVariants.{V4, V6}
 use Rattle.rule_model.specs.Rank.{list_rank}
 use Rattle.rule_model.specs.Rule.{route_rule}
 use Rattle.rule_store.specs.declared.Command.TheVariants.{Add as Adds, Set as Sets, Del as Dels}
+use Rattle.settled_changes.specs.declared.Request.TheVariants.{Put as Puts, Drop as Drops}
 use Rattle.line_words.specs.declared.WordFault.{WordFault}
 use Rattle.line_words.specs.Notations.{notation_for}
 use Rattle.line_words.specs.Texts.{word_fault_text}
@@ -18,7 +19,7 @@ use Rattle.acl_reader.specs.declared.AclCommand.{AclCommand}
 use Rattle.acl_reader.specs.declared.AclCommand.TheVariants as acl
 use Rattle.acl_reader.specs.Grammar.{acl_line}
 use Rattle.replay.specs.declared.Act.{Act}
-use Rattle.replay.specs.declared.Act.TheVariants.{Command, Probe, Packet, Commit, Trial, Crash}
+use Rattle.replay.specs.declared.Act.TheVariants.{Command, Ask, All, Probe, Packet, Commit, Trial, Crash}
 use Rattle.report_lines.specs.declared.Family.{Family}
 use Rattle.report_lines.specs.declared.Family.TheVariants.{Route, Acl, Route6, Acl6}
 use Rattle.replay.specs.Effects.{Setting}
@@ -37,6 +38,9 @@ abbrev pub route_act : IpVersion → RouteCommand → Act
 route_act version (route.Add block answer) = Command (Adds (route_rule (route_rank version block) block answer))
 route_act version (route.Set block answer) = Command (Sets (route_rank version block) answer)
 route_act version (route.Del block) = Command (Dels (route_rank version block))
+route_act version (route.Put block answer) = Ask (Puts (route_rule (route_rank version block) block answer))
+route_act version (route.Drop block) = Ask (Drops (route_rank version block))
+route_act version route.All = All
 route_act version (route.Common command) = common_act command
 
 -- a rule of an access list has its sequence number as its priority
@@ -44,6 +48,9 @@ abbrev pub acl_act : AclCommand → Act
 acl_act (acl.Add rule) = Command (Adds rule)
 acl_act (acl.Set sequence answer) = Command (Sets (list_rank sequence) answer)
 acl_act (acl.Del sequence) = Command (Dels (list_rank sequence))
+acl_act (acl.Put rule) = Ask (Puts rule)
+acl_act (acl.Drop sequence) = Ask (Drops (list_rank sequence))
+acl_act acl.All = All
 acl_act (acl.Common command) = common_act command
 
 -- a reader's answer as an act or a fault's text
@@ -69,6 +76,8 @@ reading Acl6 line = acl_reading V6 line
 -- what an act that was read is: where the report is in JSON a trial and a crash are faults
 abbrev pub told_by : Bool → Act → Result (Option Act) (List ℕ)
 told_by json (Command change) = Ok (Some (Command change))
+told_by json (Ask request) = Ok (Some (Ask request))
+told_by json All = Ok (Some All)
 told_by json (Probe key) = Ok (Some (Probe key))
 told_by json (Packet key) = Ok (Some (Packet key))
 told_by json Commit = Ok (Some Commit)

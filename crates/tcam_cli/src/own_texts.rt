@@ -37,6 +37,7 @@ output. Or it checks a trace of writes, its own or another driver's.
                                    changes of an access list, made from SEED
     tcam verify < FILE             a check of a trace of device writes
     tcam draw [OPTIONS] < TRACE    a picture of a trace's commits, as an SVG
+    tcam import FORMAT [OPTIONS]   a script of what another program prints
     tcam route --help              the commands of a script of routes
     tcam acl --help                the commands of a script of an access list
     tcam route6 --help             those of a script of IPv6 routes
@@ -45,6 +46,7 @@ output. Or it checks a trace of writes, its own or another driver's.
     tcam gen --help                what SEED, RULES and BATCHES make
     tcam verify --help             the lines of a trace, and what is told of it
     tcam draw --help               what a picture shows, and of which commits
+    tcam import --help             the formats that are read, and their options
     tcam --help                    this text
     tcam --version                 name and version
 
@@ -97,6 +99,9 @@ Commands of a script, one a line:
                                unless a route of a longer prefix holds
     route set PREFIX RESULT    the route of this prefix gives RESULT
     route del PREFIX           the route of this prefix goes
+    route put PREFIX RESULT    the prefix gets RESULT, whether it stood or not
+    route drop PREFIX          the prefix goes, whether it stood or not
+    route all                  the changes up to the commit are the whole set
     commit                     carries out all changes since the last, or none
     trial K                    the same, and takes it back after write K of more
     crash K                    the same, and restarts after write K of more
@@ -138,6 +143,9 @@ Commands of a script, one a line, with the source's side and ports first:
                                get ACTION, unless a rule of lower SEQ holds
     acl set SEQ ACTION         the rule of this number gives ACTION
     acl del SEQ                the rule of this number goes
+    acl put SEQ ..             as acl add, whether the number stood or not
+    acl drop SEQ               the number goes, whether it stood or not
+    acl all                    the changes up to the commit are the whole list
     commit                     carries out all changes since the last, or none
     trial K                    the same, and takes it back after write K of more
     crash K                    the same, and restarts after write K of more
@@ -181,6 +189,9 @@ Commands of a script, one a line:
                                unless a route of a longer prefix holds
     route set PREFIX RESULT    the route of this prefix gives RESULT
     route del PREFIX           the route of this prefix goes
+    route put PREFIX RESULT    the prefix gets RESULT, whether it stood or not
+    route drop PREFIX          the prefix goes, whether it stood or not
+    route all                  the changes up to the commit are the whole set
     commit                     carries out all changes since the last, or none
     trial K                    the same, and takes it back after write K of more
     crash K                    the same, and restarts after write K of more
@@ -222,6 +233,9 @@ Commands of a script, one a line, with the source's side and ports first:
                                get ACTION, unless a rule of lower SEQ holds
     acl set SEQ ACTION         the rule of this number gives ACTION
     acl del SEQ                the rule of this number goes
+    acl put SEQ ..             as acl add, whether the number stood or not
+    acl drop SEQ               the number goes, whether it stood or not
+    acl all                    the changes up to the commit are the whole list
     commit                     carries out all changes since the last, or none
     trial K                    the same, and takes it back after write K of more
     crash K                    the same, and restarts after write K of more

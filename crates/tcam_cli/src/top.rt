@@ -22,7 +22,7 @@ ghost use Rattle.tcam_cli.specs.CommandLine.{job_of};
 ghost use Rattle.tcam_cli.specs.Headline.{IsCarriedOut, HasCauses, Makes, Reads, run_kind, status_of};
 ghost use Rattle.tcam_cli.specs.MadeScript.{made_act};
 ghost use Rattle.tcam_cli.specs.Readings.{acl_act, acl_reading, common_act, reading, reading_by, route_act, route_reading, told_by};
-ghost use Rattle.script_runs.specs.Rounds.{RoundsBy};
+ghost use Rattle.script_runs.specs.Rounds.{RoundsBy, outputs};
 ghost use Rattle.route_reader.specs.Routes as routes;
 ghost use Rattle.tcam_cli.specs.Rounds.{ClosesReport, IsBetweenLines, status_of_fault};
 ghost use Rattle.tcam_device.specs.View.{journal};
@@ -40,6 +40,7 @@ use rule_gen::{Made, Maker};
 use rule_model::{IpVersion, Prefix, list_rank};
 use rule_store::Command;
 use script_lines::{Failed, Line, LineFault, Lines, Sink, Source};
+use settled_changes::Request;
 use slot_order::MOST_SLOTS;
 use std::alloc::Global;
 use tcam_device::ReadBack;
@@ -187,7 +188,7 @@ fn round<S: Source, K: Sink, D: ReadBack>(
     ensures setting { setting_of run.new ≡ setting_of run.old }
     ensures gives { (pieces : List (List ℕ)) × GivesPieces (S.given source.old) (S.given source.new) (S.left source.old) (S.left source.new) pieces
         × ((which : Bool) → RoundsBy (run_kind (setting_of run.old) (D.view device.old).slots) lines.old (progress_of (D.view device.old).slots run.old) pieces result
-        lines.new (progress_of (D.view device.old).slots run.new) (D.view device.old).events (D.view device.new).events (counted which (K.taken sink.old) (K.accepted sink.old)) (counted which (K.taken sink.new) (K.accepted sink.new))) }
+        lines.new (progress_of (D.view device.old).slots run.new) (outputs (D.view device.old).events (counted which (K.taken sink.old) (K.accepted sink.old))) (outputs (D.view device.new).events (counted which (K.taken sink.new) (K.accepted sink.new)))) }
     ensures rests { lines.old.over ≢ Going → (S.left source.new ≡ S.left source.old) × (lines.new ≡ lines.old) }
     ensures no_usage { result ≢ Some Status.Usage }
     ensures none_in_flight { IfNone result ((D.view device.new).flight ≡ []) }
@@ -215,6 +216,7 @@ fn round<S: Source, K: Sink, D: ReadBack>(
     match run.apply(&act, sink, device) {
         Ok(()) => None,
         Err(ActFault::BatchFull) => Some(fault(run, line.number, "batch full", sink)),
+        Err(ActFault::ChangesPending) => Some(fault(run, line.number, "changes pending", sink)),
         Err(ActFault::ProbesFull) => Some(fault(run, line.number, "too many probes", sink)),
         // The run ends at the device's failure, so no commit is unfinished.
         Err(ActFault::Held { .. }) => unreachable!(),
@@ -313,7 +315,8 @@ pub fn told_act(json: bool, act: Act) -> Result<Option<Act>, &'static str>
     ensures short { IfErr result (λ text. length text.now ≤ 32) }
 {
     match act {
-        Act::Command(_) | Act::Probe(_) | Act::Packet(_) | Act::Commit => Ok(Some(act)),
+        Act::Command(_) | Act::Ask(_) | Act::All | Act::Probe(_) | Act::Packet(_) | Act::Commit =>
+            Ok(Some(act)),
         Act::Trial(_) | Act::Crash(_) => {
             if json {
                 Err("not with json")
@@ -384,11 +387,15 @@ fn acl_act(command: &AclCommand) -> Act
             result: *answer,
         }),
         AclCommand::Del(sequence) => Act::Command(Command::Del(list_rank(*sequence))),
+        AclCommand::Put(rule) => Act::Ask(Request::Put(*rule)),
+        AclCommand::Drop(sequence) => Act::Ask(Request::Drop(list_rank(*sequence))),
+        AclCommand::All => Act::All,
         AclCommand::Common(command) => common_act(command),
     }
 }
 
-/// The act that a command of a script of routes is. What it adds is a route of its version of IP.
+/// The act that a command of a script of routes is. What it adds or puts is a route of its version
+/// of IP.
 fn route_act(command: &RouteCommand, version: IpVersion) -> Act
     requires { routes.IsCommandOf version command.now }
     ensures act { result ≡ route_act version command.now }
@@ -401,6 +408,9 @@ fn route_act(command: &RouteCommand, version: IpVersion) -> Act
             result: *answer,
         }),
         RouteCommand::Del(prefix) => Act::Command(Command::Del(route_rank(prefix, version))),
+        RouteCommand::Put(prefix, answer) => route_put(*prefix, *answer, version),
+        RouteCommand::Drop(prefix) => Act::Ask(Request::Drop(route_rank(prefix, version))),
+        RouteCommand::All => Act::All,
         RouteCommand::Common(command) => common_act(command),
     }
 }
@@ -412,6 +422,15 @@ fn route_addition(prefix: Prefix, answer: u32, version: IpVersion) -> Act
     ensures route { IsActOf (routes_of version) result }
 {
     Act::Command(Command::Add(route_of(prefix, answer, version)))
+}
+
+/// The act that has a route of a version of IP stand.
+fn route_put(prefix: Prefix, answer: u32, version: IpVersion) -> Act
+    requires { routes.IsBlockOf version prefix }
+    ensures act { result ≡ Act.Ask (Request.Put (route_rule (routes.route_rank version prefix) prefix answer)) }
+    ensures route { IsActOf (routes_of version) result }
+{
+    Act::Ask(Request::Put(route_of(prefix, answer, version)))
 }
 
 /// The act that a command of both kinds of script is.

@@ -32,7 +32,9 @@ use Rattle.replay.specs.declared.RunFault.TheVariants as fault
 use Rattle.replay.specs.Effects.{Setting, Effect, Acts, Prints, flushed, printed, waiting_after, probes_told}
 use Rattle.batch_order.specs.Steps.{ServesNow}
 use Rattle.replay.specs.InFlight.{AreOf, IsSeen, found_all}
-use Rattle.replay.specs.Run.{Progress, HasEffects, IsCutStep, TakesMemory}
+use Rattle.replay.specs.Run.{Progress, HasEffects, IsCutStep, TakesMemory, pending_verdict}
+use Rattle.settled_changes.specs.declared.requested.Requested.TheVariants.{Nothing}
+use Rattle.replay.proofs.between.Settled.{stops-plain, verdict-plain}
 use Rattle.replay.specs.Crashing.{memory_wanted}
 use Rattle.report_lines.specs.Told.{verdict_told}
 use Rattle.report_lines.specs.Outside.{AppendsPart}
@@ -202,13 +204,15 @@ module _ (slots : ℕ) (before : Progress) (front : List Effect) (inside run : R
           (breaks-last slots before front inside rest.course rest.line rest.ended rest.ending events_old events_new at-inside old mid grown-left told-left searched taken last-told (subst (AppendsPart searched taken) own-same part))
 
 -- memory that is taken at a crash is one that the act takes
-takes-memory : (setting : Setting) (before : Progress) (act : Act) (effects : List Effect) → TakesAtCrash setting before act effects → TakesMemory setting before act effects
-takes-memory setting before (acts.Command change) effects takes = absurd takes
-takes-memory setting before (acts.Probe key) effects takes = absurd takes
-takes-memory setting before (acts.Packet key) effects takes = absurd takes
-takes-memory setting before acts.Commit effects takes = absurd takes
-takes-memory setting before (acts.Trial most) effects takes = absurd takes
-takes-memory setting before (acts.Crash after) effects takes = (takes.0, inr takes.1)
+takes-memory : (setting : Setting) (before : Progress) (act : Act) (effects : List Effect) → before.asked ≡ Nothing → TakesAtCrash setting before act effects → TakesMemory setting before act effects
+takes-memory setting before (acts.Command change) effects plain takes = absurd takes
+takes-memory setting before (acts.Ask request) effects plain takes = absurd takes
+takes-memory setting before acts.All effects plain takes = absurd takes
+takes-memory setting before (acts.Probe key) effects plain takes = absurd takes
+takes-memory setting before (acts.Packet key) effects plain takes = absurd takes
+takes-memory setting before acts.Commit effects plain takes = absurd takes
+takes-memory setting before (acts.Trial most) effects plain takes = absurd takes
+takes-memory setting before (acts.Crash after) effects plain takes = stops-plain setting before after effects plain takes.0 takes.1
 
 -- what comes of want of memory where no call may follow
 lost-comes : (A C : Type 0) (broken : Bool) → broken ≡ true → C → WantsBy broken A C
@@ -223,7 +227,7 @@ taken-accepted (OutOfBits field needed free) counts taken = absurd (cc)
 taken-accepted (OutOfSlots needed free) counts taken = absurd (cc)
 
 -- where the commit of the pending batch is taken
-module _ (inside : Running) (counts : Done) (manager : Managed) (is : IsRun inside) (idle : inside.manager.held ≡ None) (holds : Holds inside.manager inside.pending counts manager)
+module _ (inside : Running) (counts : Done) (manager : Managed) (is : IsRun inside) (idle : inside.manager.held ≡ None) (plain : inside.asked ≡ Nothing) (holds : Holds inside.manager inside.pending counts manager)
     (judges : Judges inside.manager inside.manager.held inside.pending (Ok counts)) (fate : Fate) (first : IsFirst fate) where
   abbrev run_taken : Running
   run_taken = record inside { manager = manager; fate = fate }
@@ -243,11 +247,12 @@ module _ (inside : Running) (counts : Done) (manager : Managed) (is : IsRun insi
       ap (λ (m : Managed). verdict_of (record inside { manager = m })) holds.new_is ∙ taken-accepted (verdict_of inside) counts answers
 
   abbrev half-taken : IsHalfway run_taken
-  half-taken = halfway-none run_taken first counts holds-taken accepted-taken shows-taken (is.idle idle).0 (is.idle idle).1
+  half-taken = halfway-none run_taken first plain counts holds-taken accepted-taken shows-taken (is.idle idle).0 (is.idle idle).1
 
   pub taken-run : IsRun (record inside { manager = manager; fate = fate })
   taken-run = record {
     changes = is.changes;
+    asks = is.asks;
     routes = subst (λ (m : Managed). (version : IpVersion) → inside.family ≡ routes_of version → AllByRecursion (IsRoute version) m.rules) (sym holds.new_is) is.routes;
     size = subst (λ (m : Managed). length m.state.slots ≡ m.slots) (sym holds.new_is) is.size;
     few = is.few;
@@ -318,7 +323,7 @@ module _ (inside : Running) (counts : Done) (manager : Managed) (is : IsRun insi
         (lost-comes _ _ new.broken lost (λ at.
         let ends = begins (Err fault.Memory) goes_memory at in record {
           effects = ends.more;
-          needs = subst (λ one. TakesMemory one (progress_of slots run) (commit_act fate) ends.more) (setting-taken setting) (takes-memory (setting_of new) (progress_of slots run) (commit_act fate) ends.more ends.needs);
+          needs = subst (λ one. TakesMemory one (progress_of slots run) (commit_act fate) ends.more) (setting-taken setting) (takes-memory (setting_of new) (progress_of slots run) (commit_act fate) ends.more (ap (λ (r : Running). r.asked) (sym same) ∙ plain) ends.needs);
           does = ends.does;
         }))
 
@@ -359,22 +364,43 @@ judged inside run reason same idle judges =
 
 -- a refused commit, with its line or a part of it
 pub refused-acts : (fate : Fate) (result : Result (Unit {0}) ActFault) (slots : ℕ) (inside run new : Running) (reason : Rejection) (told : Verdict) (manager : Managed)
-    (events_old events_new : List Action) (old taken : Option (List ℕ)) → inside ≡ run → run.manager.held ≡ None
+    (events_old events_new : List Action) (old taken : Option (List ℕ)) → inside ≡ run → run.manager.held ≡ None → run.asked ≡ Nothing
     → Judges inside.manager inside.manager.held inside.pending (Err (refusal.Rejected reason)) → manager ≡ inside.manager → events_new ≡ events_old
     → new ≡ run_refused (record inside { manager = manager }) → IfErr result (λ why. why ≡ Stopped fault.Sink)
     → OnOk result (Appends old taken (refusal_line (setting_of (record inside { manager = manager })) inside.commits told))
     → OnErr result (AppendsPart old taken (refusal_line (setting_of (record inside { manager = manager })) inside.commits told)) → told ≡ verdict_told reason
     → ComesTo slots run (commit_act fate) new result events_old events_new old taken
-refused-acts fate (Ok done) slots inside run new reason told manager events_old events_new old taken same idle judges kept journal is kind grown part told-is =
+refused-acts fate (Ok done) slots inside run new reason told manager events_old events_new old taken same idle plain judges kept journal is kind grown part told-is =
     let verdict = judged inside run reason same idle judges in
     let whole : record inside { manager = manager } ≡ run = ap (λ (m : Managed). record inside { manager = m }) kept ∙ same in
     let line = subst (λ one. Appends old taken (refusal_line (setting_of (record inside { manager = manager })) inside.commits one)) told-is grown in
-    refuse-carries fate slots run new (verdict_told reason) events_old events_new old taken verdict.0 verdict.1 (is ∙ ap run_refused whole) journal
+    refuse-carries fate slots run new (verdict_told reason) events_old events_new old taken (verdict-plain (setting_of run) (progress_of slots run) plain ∙ verdict.0) verdict.1 (is ∙ ap run_refused whole) journal
     (subst (λ (r : Running). Appends old taken (refusal_line (setting_of r) r.commits (verdict_told reason))) whole line)
-refused-acts fate (Err why) slots inside run new reason told manager events_old events_new old taken same idle judges kept journal is kind grown part told-is =
+refused-acts fate (Err why) slots inside run new reason told manager events_old events_new old taken same idle plain judges kept journal is kind grown part told-is =
     let verdict = judged inside run reason same idle judges in
     let whole : record inside { manager = manager } ≡ run = ap (λ (m : Managed). record inside { manager = m }) kept ∙ same in
     let line = subst (λ one. AppendsPart old taken (refusal_line (setting_of (record inside { manager = manager })) inside.commits one)) told-is part in
     subst (λ one. ComesTo slots run (commit_act fate) new (Err one) events_old events_new old taken) (sym kind)
-    (refuse-cuts fate slots run new (verdict_told reason) events_old events_new old taken verdict.0 verdict.1 journal
+    (refuse-cuts fate slots run new (verdict_told reason) events_old events_new old taken (verdict-plain (setting_of run) (progress_of slots run) plain ∙ verdict.0) verdict.1 journal
     (subst (λ (r : Running). AppendsPart old taken (refusal_line (setting_of r) r.commits (verdict_told reason))) whole line))
+
+-- what is asked for is refused where the set doesn't take it, with its line or a part of it
+refused-asked : (fate : Fate) (result : Result (Unit {0}) ActFault) (slots : ℕ) (run new : Running) (reason : Verdict) (events : List Action) (old taken : Option (List ℕ))
+    → pending_verdict (setting_of run) (progress_of slots run) ≡ reason → reason ≢ Accepted → new ≡ run_refused run → IfErr result (λ why. why ≡ Stopped fault.Sink)
+    → OnOk result (Appends old taken (refusal_line (setting_of run) run.commits reason)) → OnErr result (AppendsPart old taken (refusal_line (setting_of run) run.commits reason))
+    → ComesTo slots run (commit_act fate) new result events events old taken
+refused-asked fate (Ok done) slots run new reason events old taken judged other is kind grown part =
+    refuse-carries fate slots run new reason events events old taken judged other is refl grown
+refused-asked fate (Err why) slots run new reason events old taken judged other is kind grown part =
+    subst (λ one. ComesTo slots run (commit_act fate) new (Err one) events events old taken) (sym kind)
+    (refuse-cuts fate slots run new reason events events old taken judged other refl part)
+
+-- the same, by the verdict that is told
+pub refused-told : (fate : Fate) (result : Result (Unit {0}) ActFault) (slots : ℕ) (run new : Running) (reason told : Verdict) (events : List Action) (old taken : Option (List ℕ))
+    → pending_verdict (setting_of run) (progress_of slots run) ≡ reason → reason ≢ Accepted → new ≡ run_refused run → IfErr result (λ why. why ≡ Stopped fault.Sink)
+    → OnOk result (Appends old taken (refusal_line (setting_of run) run.commits told)) → OnErr result (AppendsPart old taken (refusal_line (setting_of run) run.commits told)) → told ≡ reason
+    → ComesTo slots run (commit_act fate) new result events events old taken
+refused-told fate result slots run new reason told events old taken judged other is kind grown part same =
+    refused-asked fate result slots run new reason events old taken judged other is kind
+    (subst (λ one. OnOk result (Appends old taken (refusal_line (setting_of run) run.commits one))) same grown)
+    (subst (λ one. OnErr result (AppendsPart old taken (refusal_line (setting_of run) run.commits one))) same part)

@@ -20,6 +20,7 @@ use Rattle.replay.specs.declared.watch.Count.{Count}
 use Rattle.replay.specs.declared.steps.Ended.{Ended}
 use Rattle.replay.specs.declared.steps.Ended.TheVariants as ended
 use Rattle.replay.specs.Effects.{waiting_after}
+use Rattle.settled_changes.specs.declared.requested.Requested.TheVariants.{Nothing}
 use Rattle.replay.specs.declared.fate.Fate.{Fate}
 use Rattle.replay.specs.declared.fate.Fate.TheVariants.{ToTheEnd, BackAfter, CrashAfter, RestartedAfter}
 use Rattle.replay.specs.Fates.{IsBefore, IsFirst, IsWithinCrash, crash_of, most_of}
@@ -51,6 +52,7 @@ halfway-more run now count half some come before within =
     record {
       begun = half.begun;
       first = half.first;
+      plain = half.plain;
       holds = half.holds;
       accepted = half.accepted;
       shows = half.shows;
@@ -62,13 +64,14 @@ halfway-more run now count half some come before within =
     }
 
 -- a commit that was taken, before its first write
-abbrev pub halfway-none : (run : Running) → IsFirst run.fate → (counts : Done) → (holds : Holds (record run.manager { held = None }) run.pending counts run.manager) → verdict_of run ≡ Accepted → ShowsRules (record run.manager { held = None })
+abbrev pub halfway-none : (run : Running) → IsFirst run.fate → run.asked ≡ Nothing → (counts : Done) → (holds : Holds (record run.manager { held = None }) run.pending counts run.manager) → verdict_of run ≡ Accepted → ShowsRules (record run.manager { held = None })
     → run.told ≡ 0 → run.waiting ≡ 0 → IsHalfway run
-halfway-none run first counts holds accepted shows told waiting =
+halfway-none run first plain counts holds accepted shows told waiting =
     let held : HeldCommit = commit_of (record run.manager { held = None }) run.pending holds.made counts in
     let held_is : run.manager.held ≡ Some held = ap (λ (manager : Managed). manager.held) holds.new_is in record {
       begun = run.manager;
       first = first;
+      plain = plain;
       holds = (counts, holds);
       accepted = accepted;
       shows = shows;
@@ -191,13 +194,14 @@ module _ (run : Running) (half : IsHalfway run) where
   pub begun-is : IsRun run → IsRun run_begun
   begun-is is = record {
     changes = is.changes;
+    asks = is.asks;
     routes = subst (λ (manager : Managed). (version : IpVersion) → run.family ≡ routes_of version → AllByRecursion (IsRoute version) manager.rules) half.some.now_is is.routes;
     some_slots = subst (λ (manager : Managed). 1 ≤ manager.slots) half.some.now_is is.some_slots;
     most_slots = subst (λ (manager : Managed). manager.slots ≤ most_slots) half.some.now_is is.most_slots;
     size = sym (slots-after half.begun.state (writes_in half.some.made)) ∙ subst (λ (manager : Managed). length manager.state.slots ≡ manager.slots) half.some.now_is is.size;
     few = is.few;
     shows = λ idle. absurd (let none : Some held_begun ≡ None = sym (ap (λ (manager : Managed). manager.held) begun-holds.new_is) ∙ idle in cc);
-    halfway = λ some. inl (halfway-none run_begun half.first half.holds.0 half.holds.1 half.accepted half.shows refl refl);
+    halfway = λ some. inl (halfway-none run_begun half.first half.plain half.holds.0 half.holds.1 half.accepted half.shows refl refl);
     idle = λ none. absurd (let none : Some held_begun ≡ None = sym (ap (λ (manager : Managed). manager.held) begun-holds.new_is) ∙ none in cc);
   }
 
@@ -234,6 +238,7 @@ pub cut-run : (run : Running) (now : Managed) (count : Count) → IsRun run → 
     → IsRun (record run { manager = now; told = count.told; waiting = count.waiting })
 cut-run run now count is some under_way = record {
   changes = is.changes;
+  asks = is.asks;
   routes = subst (λ (manager : Managed). (version : IpVersion) → run.family ≡ routes_of version → AllByRecursion (IsRoute version) manager.rules) (sym some.now_is) is.routes;
   some_slots = subst (λ (manager : Managed). 1 ≤ manager.slots) (sym some.now_is) is.some_slots;
   most_slots = subst (λ (manager : Managed). manager.slots ≤ most_slots) (sym some.now_is) is.most_slots;

@@ -9,7 +9,7 @@ use Rattle.commit_writes.specs.declared.Done.{Done}
 use Rattle.batch_order.specs.Managed.{Holds, Managed, live_now}
 use Rattle.replay.specs.declared.Act.{Act}
 use Rattle.replay.specs.declared.ActFault.{ActFault}
-use Rattle.replay.specs.declared.ActFault.TheVariants.{BatchFull, ProbesFull, Held, Stopped}
+use Rattle.replay.specs.declared.ActFault.TheVariants.{BatchFull, ChangesPending, ProbesFull, Held, Stopped}
 use Rattle.replay.specs.declared.RunFault.{RunFault}
 use Rattle.replay.specs.declared.watch.Count.{Count}
 use Rattle.replay.specs.declared.RunFault.TheVariants as fault
@@ -125,6 +125,8 @@ sink_failed-marked act (Err (Stopped fault.Memory)) false now is lost = λ broke
 sink_failed-marked act (Err (Stopped fault.Memory)) true now is lost = λ broken. (lost refl).1
 sink_failed-marked act (Err BatchFull) false now is lost = is
 sink_failed-marked act (Err BatchFull) true now is lost = absurd (let bad = (lost refl).0 in cc)
+sink_failed-marked act (Err ChangesPending) false now is lost = is
+sink_failed-marked act (Err ChangesPending) true now is lost = absurd (let bad = (lost refl).0 in cc)
 sink_failed-marked act (Err ProbesFull) false now is lost = is
 sink_failed-marked act (Err ProbesFull) true now is lost = absurd (let bad = (lost refl).0 in cc)
 sink_failed-marked act (Err (Held left)) false now is lost = is
@@ -151,6 +153,8 @@ comes-marked (Err (Stopped fault.Memory)) slots old act mid new events_old event
     subst (λ (run : Running). ComesTo slots old act run (Err (Stopped fault.Memory)) events_old events_new taken_old taken_new) (sym (marked-kept (Err (Stopped fault.Memory)) mid new is refl)) comes
 comes-marked (Err BatchFull) slots old act mid new events_old events_new taken_old taken_new is comes =
     subst (λ (run : Running). ComesTo slots old act run (Err BatchFull) events_old events_new taken_old taken_new) (sym (marked-kept (Err BatchFull) mid new is refl)) comes
+comes-marked (Err ChangesPending) slots old act mid new events_old events_new taken_old taken_new is comes =
+    subst (λ (run : Running). ComesTo slots old act run (Err ChangesPending) events_old events_new taken_old taken_new) (sym (marked-kept (Err ChangesPending) mid new is refl)) comes
 comes-marked (Err ProbesFull) slots old act mid new events_old events_new taken_old taken_new is comes =
     subst (λ (run : Running). ComesTo slots old act run (Err ProbesFull) events_old events_new taken_old taken_new) (sym (marked-kept (Err ProbesFull) mid new is refl)) comes
 comes-marked (Err (Held left)) slots old act mid new events_old events_new taken_old taken_new is comes =

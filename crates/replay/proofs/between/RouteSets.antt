@@ -1,19 +1,16 @@
 -- A set of routes stays one, whatever changes of routes a batch makes.
-use Rattle.std.proofs.Common.{◌≡◌, List, [], ◌∷◌, ◌++◌, inl, inr, sym, ap, subst}
+use Rattle.std.proofs.Common.{List, inl, inr, sym, ap, subst}
 use Rattle.std.specs.List.{AllByRecursion}
-use Rattle.slot_order.proofs.Lists.{all_append, AllByRecursion-member}
+use Rattle.slot_order.proofs.Lists.{AllByRecursion-member}
 use Rattle.rule_model.specs.declared.IpVersion.{IpVersion}
 use Rattle.rule_model.specs.declared.IpVersion.TheVariants.{V4, V6}
 use Rattle.rule_model.specs.declared.Rule.{Rule}
 use Rattle.rule_store.specs.declared.Command.{Command as Change}
 use Rattle.rule_store.specs.Batch.{additions, result_after, with_result_after, set_after}
 use Rattle.rule_store.proofs.Members.{set_after-member}
-use Rattle.rule_store.proofs.Sound.{additions-append}
 use Rattle.commit_writes.specs.Routes.{IsRoute}
 use Rattle.commit_writes.proofs.Filters.{all_members}
 use Rattle.batch_order.specs.Managed.{OnlyChangesRoutes}
-use Rattle.report_lines.specs.declared.Family.{Family}
-use Rattle.replay.specs.Running.{IsChangeOf, routes_of}
 
 -- a route with another result is one
 with_result : (version : IpVersion) (batch : List Change) (old : Rule) → IsRoute version old → IsRoute version (with_result_after batch old)
@@ -31,15 +28,3 @@ routes_after version rules batch routes changes = all_members (IsRoute version) 
   | inl new ↦ AllByRecursion-member (IsRoute version) (additions batch) rule changes new
   | inr kept ↦ subst (IsRoute version) (sym kept.3) (with_result version batch kept.0 (AllByRecursion-member (IsRoute version) rules kept.0 routes kept.1))
 ])
-
--- a change in a script of routes is one of routes of its version
-change_of : (version : IpVersion) (change : Change) → IsChangeOf (routes_of version) change → OnlyChangesRoutes version (change ∷ [])
-change_of V4 change is = is
-change_of V6 change is = is
-
--- a change of a script of routes more
-pub changes_more : (family : Family) (pending : List Change) (change : Change) → ((version : IpVersion) → family ≡ routes_of version → OnlyChangesRoutes version pending)
-    → IsChangeOf family change → (version : IpVersion) → family ≡ routes_of version → OnlyChangesRoutes version (pending ++ change ∷ [])
-changes_more family pending change changes is version route =
-    subst (AllByRecursion (IsRoute version)) (sym (additions-append pending (change ∷ [])))
-    (all_append (IsRoute version) (additions pending) (additions (change ∷ [])) (changes version route) (change_of version change (subst (λ f. IsChangeOf f change) route is)))

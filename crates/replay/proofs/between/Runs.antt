@@ -1,5 +1,5 @@
 -- What a run is between two calls, and after an accepted commit.
-use Rattle.std.proofs.Common.{Bool, true, false, inl, inr, ◌≡◌, ℕ, ◌+◌, ◌-◌, ◌*◌, ◌^◌, ◌<◌, ◌≤◌, length, List, [], ◌∷◌, ◌++◌, Option, None, IsSome, replicate, take, Result, Ok, Err, OnOk, OnErr, refl, sym, ap, ◌∙◌, subst, arith}
+use Rattle.std.proofs.Common.{Bool, true, false, inl, inr, ◌≡◌, ℕ, ◌+◌, ◌-◌, ◌*◌, ◌^◌, ◌<◌, ◌≤◌, length, List, [], ◌∷◌, ◌++◌, Option, None, IsSome, replicate, take, refl, sym, ap, ◌∙◌, subst, arith}
 use Rattle.std.proofs.Math.Seq.{take-append_seam}
 use Rattle.std.specs.List.{AllByRecursion}
 use Rattle.rule_model.specs.declared.IpVersion.{IpVersion}
@@ -25,7 +25,13 @@ use Rattle.replay.specs.Text.{aborted_line}
 use Rattle.replay.specs.Crashing.{after_loss}
 use Rattle.replay.specs.declared.fate.Fate.TheVariants.{ToTheEnd}
 use Rattle.replay.specs.Running.{Running, IsHalfway, IsOnward, IsRun, IsMidCommit, setting_of, progress_of, begun, routes_of, IsChangeOf, ShowsRules}
-use Rattle.replay.proofs.between.RouteSets.{routes_after, changes_more}
+use Rattle.settled_changes.specs.declared.Request.{Request}
+use Rattle.settled_changes.specs.declared.requested.Requested.{Requested}
+use Rattle.settled_changes.specs.declared.requested.Requested.TheVariants.{Nothing}
+use Rattle.settled_changes.specs.Requested.{TakesAsked, asked_behind, asked_with, batch_behind, batch_with, settled_batch, strict_form}
+use Rattle.replay.specs.AskedRoutes.{OnlyAsksRoutes}
+use Rattle.replay.proofs.between.RouteSets.{routes_after}
+use Rattle.replay.proofs.between.SettledRoutes.{batch-routes, behind-routes, change-routes, with-routes}
 use Rattle.tcam_device.proofs.Wider.{slots-after, state_after-on_device, Shows-padded, blank_shows}
 use Rattle.std.proofs.lemmas.List.{length-replicate}
 use Rattle.slot_order.specs.Order.{most_slots}
@@ -34,6 +40,7 @@ use Rattle.slot_order.specs.Order.{most_slots}
 pub begun-run : (slots : ℕ) (mode : Mode) (placement : Placement) (family : Family) (trace : Bool) (depth : ℕ) (json : Bool) → 1 ≤ slots → slots ≤ most_slots → IsRun (begun slots mode placement family trace depth json)
 begun-run slots mode placement family trace depth json least most = record {
   changes = λ version route. tt;
+  asks = λ version route. tt;
   routes = λ version route. tt;
   some_slots = least;
   most_slots = most;
@@ -48,6 +55,7 @@ begun-run slots mode placement family trace depth json least most = record {
 pub lost-run : (run : Running) → IsRun run → IsRun (after_loss run)
 lost-run run is = record {
   changes = is.changes;
+  asks = is.asks;
   routes = λ version route. tt;
   some_slots = is.some_slots;
   most_slots = is.most_slots;
@@ -62,26 +70,48 @@ lost-run run is = record {
 pub never-halfway : (run new : Running) → run.manager.held ≡ None → IsSome run.manager.held → IsMidCommit new
 never-halfway run new idle some = absurd (let none : false ≡ true = subst (λ (held : Option HeldCommit). IsSome held) idle some in cc)
 
--- a change joined the pending batch, or it stayed as it was
-pub pushed-run : {E : Type 0} (result : Result (Unit {0}) E) (run : Running) (change : Change) (pending : List Change) → IsRun run → run.manager.held ≡ None → IsChangeOf run.family change
-    → OnOk result (pending ≡ run.pending ++ change ∷ []) → OnErr result (pending ≡ run.pending) → IsRun (record run { pending = pending })
-pushed-run (Ok done) run change pending is none change_is pushed same = subst (λ batch. IsRun (record run { pending = batch })) (sym pushed) (record {
-  changes = changes_more run.family run.pending change is.changes change_is;
+-- changes joined what is pending
+pub joined-run : (run : Running) (pending : List Change) (asked : Requested) → IsRun run → run.manager.held ≡ None
+    → ((version : IpVersion) → run.family ≡ routes_of version → OnlyChangesRoutes version pending × OnlyAsksRoutes version asked) → IsRun (record run { pending = pending; asked = asked })
+joined-run run pending asked is none change = record {
+  changes = λ version route. (change version route).0;
+  asks = λ version route. (change version route).1;
   routes = is.routes;
   some_slots = is.some_slots;
   most_slots = is.most_slots;
   size = is.size;
   few = is.few;
   shows = is.shows;
-  halfway = never-halfway run (record run { pending = run.pending ++ change ∷ [] }) none;
+  halfway = never-halfway run (record run { pending = pending; asked = asked }) none;
   idle = is.idle;
-})
-pushed-run (Err fault) run change pending is none change_is pushed same = subst (λ batch. IsRun (record run { pending = batch })) (sym same) is
+}
+
+-- a strict change,
+pub pushed-run : (run : Running) (change : Change) → IsRun run → run.manager.held ≡ None → IsChangeOf run.family change
+    → IsRun (record run { pending = batch_with run.pending run.asked change; asked = asked_with run.asked change })
+pushed-run run change is none change_is =
+    joined-run run (batch_with run.pending run.asked change) (asked_with run.asked change) is none (λ version route.
+    with-routes version run.pending run.asked change (is.changes version route) (is.asks version route) (change-routes version run.family change route change_is))
+
+-- or one that doesn't ask what is there
+pub asked-run : (run : Running) (request : Request) → IsRun run → run.manager.held ≡ None → IsChangeOf run.family (strict_form request)
+    → IsRun (record run { pending = batch_behind run.pending run.asked; asked = asked_behind run.pending run.asked request })
+asked-run run request is none change_is =
+    joined-run run (batch_behind run.pending run.asked) (asked_behind run.pending run.asked request) is none (λ version route.
+    behind-routes version run.pending run.asked request (is.changes version route) (is.asks version route) (change-routes version run.family (strict_form request) route change_is))
+
+-- what is asked for is settled
+pub settled-run : (run : Running) → IsRun run → run.manager.held ≡ None → TakesAsked run.manager.rules run.asked
+    → IsRun (record run { pending = settled_batch run.manager.rules run.pending run.asked; asked = Nothing })
+settled-run run is none taken =
+    joined-run run (settled_batch run.manager.rules run.pending run.asked) Nothing is none (λ version route.
+    (batch-routes version run.manager.rules run.pending run.asked (is.changes version route) (is.asks version route) taken, tt))
 
 abbrev same-halfway : (run : Running) (broken : Bool) → IsHalfway run → IsHalfway (record run { broken = broken })
 same-halfway run broken half = record {
   begun = half.begun;
   first = half.first;
+  plain = half.plain;
   holds = half.holds;
   accepted = half.accepted;
   shows = half.shows;
@@ -96,6 +126,7 @@ abbrev same-onward : (slots : ℕ) (run : Running) (broken : Bool) → IsOnward 
 same-onward slots run broken onward = record {
   after = onward.after;
   fate_is = onward.fate_is;
+  plain = onward.plain;
   begun = onward.begun;
   holds = onward.holds;
   accepted = onward.accepted;
@@ -115,6 +146,7 @@ same-onward slots run broken onward = record {
 pub marked-run : (run : Running) (broken : Bool) → IsRun run → IsRun (record run { broken = broken })
 marked-run run broken is = record {
   changes = is.changes;
+  asks = is.asks;
   routes = is.routes;
   some_slots = is.some_slots;
   most_slots = is.most_slots;
@@ -177,6 +209,7 @@ module _ (run : Running) (counts : Done) (is : IsRun run) (holds : Holds (record
       → IsRun (record (run_after run holds.made counts) { pending = pending; commits = commits; writes = writes })
   made-run pending commits writes changes few = record {
     changes = changes;
+    asks = is.asks;
     routes = λ version route. routes_after version run.manager.rules run.pending (is.routes version route) (is.changes version route);
     some_slots = is.some_slots;
     most_slots = is.most_slots;
@@ -194,6 +227,7 @@ module _ (run : Running) (counts : Done) (is : IsRun run) (holds : Holds (record
       → IsRun (record (run_returned run both) { pending = pending; commits = commits; writes = writes })
   returned-run pending commits writes both changes few ends shows = record {
     changes = changes;
+    asks = is.asks;
     routes = is.routes;
     some_slots = is.some_slots;
     most_slots = is.most_slots;

@@ -2,7 +2,7 @@
 use Rattle.std.proofs.Common.{◌≡◌, ℕ, ◌+◌, ◌-◌, ◌^◌, ◌<◌, ◌≤◌, inl, List, [], ◌++◌, Option, Some, None, IfSome, length, length-append, refl, sym, ap, ◌∙◌, subst, append_assoc, arith}
 use Rattle.tcam_device.specs.declared.Action.{Action}
 use Rattle.tcam_device.specs.Flight.{writes_in}
-use Rattle.batch_order.specs.Managed.{Managed, HeldCommit, writes_due}
+use Rattle.batch_order.specs.Managed.{Managed, HeldCommit}
 use Rattle.commit_writes.proofs.WritesIn.{writes_in-append}
 use Rattle.replay.specs.declared.fate.Fate.{Fate}
 use Rattle.replay.specs.declared.fate.Fate.TheVariants as fates
@@ -84,13 +84,13 @@ module _ (slots : ℕ) (run : Running) (half : IsHalfway run) (is : IsRun run) (
       let all = whole-writes straight in
       let parts : length (writes_in (whole_actions run half)) ≡ length (writes_in half.some.made) + length (writes_in half.some.left) =
       ap length (writes_in-append half.some.made half.some.left) ∙ length-append (writes_in half.some.made) (writes_in half.some.left) in
-      let due : length (writes_due half.some.one) ≡ length (writes_in half.some.left) = due-left straight in
-      let never : ¬ (after < run.told + length (writes_due half.some.one)) =
-      subst (λ held. ¬ (IfSome held (λ (one : HeldCommit). after < run.told + length (writes_due one)))) (some-held (most_of run.fate) 0 half.begun run.manager half.some)
+      let due : length (writes_in half.some.one.actions) ≡ length (writes_in half.some.left) = due-left straight in
+      let never : ¬ (after < run.told + length (writes_in half.some.one.actions)) =
+      subst (λ held. ¬ (IfSome held (λ (one : HeldCommit). after < run.told + length (writes_in one.actions)))) (some-held (most_of run.fate) 0 half.begun run.manager half.some)
       (subst (λ stop. IfSome stop (λ limit. ¬ (HasMoreThan limit run))) crashes none) in
       omega (arith, never)
     where
-      due-left : most_of run.fate ≡ None → length (writes_due half.some.one) ≡ length (writes_in half.some.left)
+      due-left : most_of run.fate ≡ None → length (writes_in half.some.one.actions) ≡ length (writes_in half.some.left)
       due-left straight = ap length (sym (left-writes run.manager.state half.some.one)) ∙ ap (λ most. length (writes_in (actions_left (trial_rest most (0 + length (writes_in half.some.made))) run.manager.state half.some.one))) (sym straight)
           ∙ ap (λ actions. length (writes_in actions)) half.some.left_is
 

@@ -18,6 +18,7 @@ use Rattle.replay.specs.Running.{Running, IsRun, IsHalfway, setting_of, progress
 use Rattle.replay.proofs.course.Course.{Course, Ending, cuts-by_step}
 use Rattle.replay.proofs.course.Returning.{IsWithin, back-on_device}
 use Rattle.replay.proofs.between.Runs.{commits-with, returns-with}
+use Rattle.replay.proofs.between.Settled.{judged-plain}
 use Rattle.replay.proofs.between.Halfway.{run_begun, run_ended, ended_by, line, line_by, is_back, back-ends, back-more, back-number, back-parts, begun-holds, begun-is, begun-in_use, held_begun, setting-begun, whole-back, whole-forward, whole-in_use, whole_actions}
 
 in-front : {A : Type 0} (P : A → Type 0) (a b : List A) → AllByRecursion P (a ++ b) → AllByRecursion P a
@@ -71,16 +72,16 @@ module _ (slots : ℕ) (run : Running) (half : IsHalfway run) (is : IsRun run) (
       forward-step : (fate : Fate) → IsFirst fate → (progress : Progress) (commits : Commits begun_setting began effects progress) → IsWithin (most_of fate) (length commits.made) → IsWithin (crash_of fate) (length commits.made)
           → HasEffects begun_setting began (commit_act fate) effects progress
       forward-step fates.ToTheEnd first progress commits most crash =
-          subst (λ (verdict : Verdict). Judged Commits begun_setting began verdict effects progress) (sym half.accepted) commits
+          judged-plain Commits begun_setting began effects progress half.plain (subst (λ (verdict : Verdict). Judged Commits begun_setting began verdict effects progress) (sym half.accepted) commits)
       forward-step (fates.BackAfter limit) first progress commits most crash =
-          subst (λ (verdict : Verdict). Judged (Tries limit) begun_setting began verdict effects progress) (sym half.accepted) (inl (commits, most))
+          judged-plain (Tries limit) begun_setting began effects progress half.plain (subst (λ (verdict : Verdict). Judged (Tries limit) begun_setting began verdict effects progress) (sym half.accepted) (inl (commits, most)))
       forward-step (fates.CrashAfter after) first progress commits most crash =
-          subst (λ (verdict : Verdict). Judged (Crashes after) begun_setting began verdict effects progress) (sym half.accepted) (inl (commits, crash))
+          judged-plain (Crashes after) begun_setting began effects progress half.plain (subst (λ (verdict : Verdict). Judged (Crashes after) begun_setting began verdict effects progress) (sym half.accepted) (inl (commits, crash)))
       forward-step (fates.RestartedAfter after) first progress commits most crash = absurd first
 
       back-step : (limit : ℕ) (progress : Progress) → Returns begun_setting began limit effects progress → HasEffects begun_setting began (commit_act (fates.BackAfter limit)) effects progress
       back-step limit progress returns =
-          subst (λ (verdict : Verdict). Judged (Tries limit) begun_setting began verdict effects progress) (sym half.accepted) (inr returns)
+          judged-plain (Tries limit) begun_setting began effects progress half.plain (subst (λ (verdict : Verdict). Judged (Tries limit) begun_setting began verdict effects progress) (sym half.accepted) (inr returns))
 
       whole-step : (back : Bool) → is_back run half ≡ back → HasEffects begun_setting began (commit_act run.fate) effects (progress_of slots (ended_by run half back))
       whole-step false on =

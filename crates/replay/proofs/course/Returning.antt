@@ -17,6 +17,7 @@ use Rattle.commit_writes.specs.Actions.{back_from, up_to_writes}
 use Rattle.commit_writes.specs.Undo.{restoring, undo_writes}
 use Rattle.commit_writes.proofs.WritesIn.{writes_of_map, writes_in-append}
 use Rattle.commit_writes.proofs.Undone.{length-undo_writes, undo_ends}
+use Rattle.batch_order.specs.Managed.Way.{On}
 use Rattle.replay.specs.Running.{left_in, trial_rest, trial_left, turns_back}
 use Rattle.replay.proofs.making.Acting.{trial-goes, trial-stays}
 
@@ -103,8 +104,8 @@ IsWithin None writes = Unit {0}
 IsWithin (Some most) writes = writes ≤ most
 
 -- one that isn't makes all of its actions
-pub stays-forward : (most : Option ℕ) (state : State) (actions : List Action) (undo : List Write) → turns_back None (trial_rest most 0) actions ≡ false
-    → (left_in None (trial_rest most 0) state actions undo ≡ actions) × IsWithin most (length (writes_in actions))
+pub stays-forward : (most : Option ℕ) (state : State) (actions : List Action) (undo : List Write) → turns_back (On undo) (trial_rest most 0) actions ≡ false
+    → (left_in (On undo) (trial_rest most 0) state actions ≡ actions) × IsWithin most (length (writes_in actions))
 stays-forward None state actions undo on = (refl, tt)
 stays-forward (Some most) state actions undo on =
     (trial-stays (most - 0) state actions undo on, (let above = ltb-false (most - 0) (length (writes_in actions)) on in omega arith))
@@ -116,8 +117,8 @@ pub record IsBack (most : Option ℕ) (state : State) (actions left : List Actio
   pub more : limit < length (writes_in actions)
   pub left_is : left ≡ trial_left limit state actions undo
 
-pub goes-back : (most : Option ℕ) (state : State) (actions : List Action) (undo : List Write) → turns_back None (trial_rest most 0) actions ≡ true
-    → IsBack most state actions (left_in None (trial_rest most 0) state actions undo) undo
+pub goes-back : (most : Option ℕ) (state : State) (actions : List Action) (undo : List Write) → turns_back (On undo) (trial_rest most 0) actions ≡ true
+    → IsBack most state actions (left_in (On undo) (trial_rest most 0) state actions) undo
 goes-back None state actions undo back = absurd (cc)
 goes-back (Some limit) state actions undo back =
     let less = ltb-true (limit - 0) (length (writes_in actions)) back in

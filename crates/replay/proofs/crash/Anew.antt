@@ -32,6 +32,7 @@ use Rattle.batch_order.specs.declared.Placement.{Placement}
 use Rattle.batch_order.specs.declared.restarting.fault.RestartFault.{RestartFault}
 use Rattle.batch_order.specs.declared.restarting.fault.RestartFault.TheVariants as restart_faults
 use Rattle.batch_order.specs.Managed.{CanRestart, HasBlankTables, HeldCommit, Managed, fresh, live_now}
+use Rattle.batch_order.specs.Steps.{is_back}
 use Rattle.batch_order.specs.Restart.{AnswersRestart, ArePartsOf, Resumes, bits_in, has_drained, rest_of}
 use Rattle.batch_order.specs.Turning.{IsCurrentRight, IsHeldRight, has_drain}
 use Rattle.replay.specs.declared.Act.TheVariants.{Crash}
@@ -39,7 +40,7 @@ use Rattle.replay.specs.declared.fate.Fate.TheVariants as fates
 use Rattle.replay.specs.Effects.{Effect, waiting_after}
 use Rattle.replay.specs.Run.{Progress, carried_so_far}
 use Rattle.replay.specs.Fates.{commit_act}
-use Rattle.replay.specs.Running.{Running, IsHalfway, IsOnward, IsRun, MakesSome, first_actions, left_in, actions_left, progress_of, routes_of, setting_of}
+use Rattle.replay.specs.Running.{Running, IsHalfway, IsOnward, IsRun, MakesSome, first_actions, actions_left, progress_of, routes_of, setting_of}
 use Rattle.replay.specs.Unfinished.{IsUnfinished, StandsHalfway, StandsOnward, TakesAtCrash}
 use Rattle.replay.specs.Carried.{IsAt}
 use Rattle.replay.specs.Crashing.{IsAtCrash, IsGoneOnWith, IsLost, after_loss}
@@ -50,6 +51,7 @@ use Rattle.replay.proofs.course.Resuming.{began, so_far, state-now, within_begun
 use Rattle.replay.proofs.course.Returning.{writes-up_to}
 use Rattle.replay.proofs.between.Runs.{lost-run}
 use Rattle.replay.proofs.crash.ToCrash.{IsToStop, accepted-run, crashing, first-made, left_first, more-made, one-turned, stops-now, to-stop}
+use Rattle.replay.proofs.making.Upto.{whole-left}
 
 -- ---- up to its drain a commit writes words of the tables alone
 
@@ -145,11 +147,11 @@ module _ (slots after : ℕ) (base : Running) (half : IsHalfway (crashing after 
   held-one : run.manager.held ≡ Some one
   held-one = some-held None 0 half.begun run.manager half.some
 
-  turned-none : one.turned ≡ None
+  turned-none : is_back one.way ≡ false
   turned-none = one-turned after base half
 
   one-left : one.actions ≡ half.some.left
-  one-left = sym (ap (λ turned. left_in turned None run.manager.state one.actions one.undo) turned-none) ∙ half.some.left_is
+  one-left = sym (whole-left run.manager.state one) ∙ half.some.left_is
 
   one-during : one.during ≡ during
   one-during = half.some.same.during ∙ ap (λ (held : HeldCommit). held.during) (held-same run half)
@@ -260,6 +262,7 @@ module _ (slots after : ℕ) (base : Running) (half : IsHalfway (crashing after 
     onward-over = record {
       after = after;
       fate_is = refl;
+      plain = half.plain;
       begun = half.begun;
       holds = half.holds;
       accepted = half.accepted;
@@ -291,6 +294,7 @@ module _ (slots after : ℕ) (base : Running) (half : IsHalfway (crashing after 
     pub run-over : IsRun over
     run-over = record {
       changes = is.changes;
+      asks = is.asks;
       routes = subst (λ (rules : List Rule). (version : IpVersion) → run.family ≡ routes_of version → AllByRecursion (IsRoute version) rules) (sym rules-over) is.routes;
       some_slots = subst (λ n. 1 ≤ n) (sym slots-over) is.some_slots;
       most_slots = subst (λ n. n ≤ most_slots) (sym slots-over) is.most_slots;

@@ -1,11 +1,12 @@
 -- What the first part of a commit that crashes comes to, by what the run is before.
-use Rattle.std.proofs.Common.{◌≡◌, ◌≢◌, ◌⊎◌, ℕ, ◌+◌, ◌-◌, ◌^◌, ◌<◌, ◌≤◌, inl, inr, List, ◌++◌, Option, Some, None, IfSome, IsSome, Result, Ok, Err, IfErr, OnOk, length, length-append, refl, sym, ap, ◌∙◌, subst, arith}
+use Rattle.std.proofs.Common.{false, ◌≡◌, ◌≢◌, ◌⊎◌, ℕ, ◌+◌, ◌-◌, ◌^◌, ◌<◌, ◌≤◌, inl, inr, List, ◌++◌, Option, Some, None, IfSome, IsSome, Result, Ok, Err, IfErr, OnOk, length, length-append, refl, sym, ap, ◌∙◌, subst, arith}
 use Rattle.std.specs.Prelude.{option_map}
 use Rattle.tcam_device.specs.declared.Action.{Action}
 use Rattle.tcam_device.specs.Flight.{Flight, writes_in}
 use Rattle.commit_writes.specs.InFlight.{AreCurrent}
 use Rattle.commit_writes.proofs.WritesIn.{writes_in-append}
-use Rattle.batch_order.specs.Managed.{HeldCommit, Managed, live_now, writes_due}
+use Rattle.batch_order.specs.Managed.{HeldCommit, Managed, live_now}
+use Rattle.batch_order.specs.Steps.{is_back}
 use Rattle.replay.specs.declared.RunFault.{RunFault}
 use Rattle.replay.specs.declared.RunFault.TheVariants as fault
 use Rattle.replay.specs.declared.fate.Fate.TheVariants as fates
@@ -29,12 +30,12 @@ use Rattle.replay.proofs.making.Upto.{left-writes}
 
 -- few writes were told and are left, by their number
 pub few-told : (after : ℕ) (base now : Running) → base ≡ now → IsRun base → IsSome now.manager.held → base.fate ≡ fates.CrashAfter after
-    → (left : ℕ) → Some left ≡ option_map (λ held. length (writes_due held)) base.manager.held → base.told + left ≤ 2 ^ 40
+    → (left : ℕ) → Some left ≡ option_map (λ held. length (writes_in held.actions)) base.manager.held → base.told + left ≤ 2 ^ 40
 few-told after base now view_is is held fate_is left left_is =
     go base.manager.held (few-due after base is (subst (λ (r : Running). IsSome r.manager.held) (sym view_is) held) fate_is) left_is
   where
-    go : (held : Option HeldCommit) → IfSome held (λ one. base.told + length (writes_due one) ≤ 2 ^ 40) → Some left ≡ option_map (λ one. length (writes_due one)) held → base.told + left ≤ 2 ^ 40
-    go (Some one) few some = let same : left ≡ length (writes_due one) = cc in omega arith
+    go : (held : Option HeldCommit) → IfSome held (λ one. base.told + length (writes_in one.actions) ≤ 2 ^ 40) → Some left ≡ option_map (λ one. length (writes_in one.actions)) held → base.told + left ≤ 2 ^ 40
+    go (Some one) few some = let same : left ≡ length (writes_in one.actions) = cc in omega arith
     go None few none = absurd (cc)
 
 -- some actions are made, and none past the crash
@@ -69,7 +70,7 @@ module _ (slots after : ℕ) (base began : Running) (view_is : base ≡ began) (
   pub asks-waiting : base.waiting ≤ base.depth
   asks-waiting = few-waiting (crashing after base) stop.half
 
-  pub asks-forward : IfSome base.manager.held (λ one. one.turned ≡ None)
+  pub asks-forward : IfSome base.manager.held (λ one. is_back one.way ≡ false)
   asks-forward = held-forward after base stop.half
 
   pub asks-more : IfSome base.manager.held (λ one. after < base.told + length (writes_in one.actions))
@@ -123,14 +124,14 @@ module _ (slots after : ℕ) (base began : Running) (view_is : base ≡ began) (
       let some = pauses.more in
       let parts : length (writes_in (pauses.some.made ++ pauses.some.left)) ≡ length (writes_in pauses.some.made) + length (writes_in pauses.some.left) =
       ap length (writes_in-append pauses.some.made pauses.some.left) ∙ length-append (writes_in pauses.some.made) (writes_in pauses.some.left) in
-      let due : length (writes_due pauses.some.one) ≡ length (writes_in pauses.some.left) =
+      let due : length (writes_in pauses.some.one.actions) ≡ length (writes_in pauses.some.left) =
       ap length (sym (left-writes now.state pauses.some.one)) ∙ ap (λ actions. length (writes_in actions)) pauses.some.left_is in
-      let left : after < count.told + length (writes_due pauses.some.one) = omega arith in
+      let left : after < count.told + length (writes_in pauses.some.one.actions) = omega arith in
       record {
         fate_is = ap (λ (r : Running). r.fate) stop.same;
         told_is = reached;
         held = subst (λ (one : Option HeldCommit). IsSome one) (sym (some-held None base.told base.manager now pauses.some)) refl;
-        more = subst (λ one. IfSome one (λ (x : HeldCommit). after < count.told + length (writes_due x))) (sym (some-held None base.told base.manager now pauses.some)) left;
+        more = subst (λ one. IfSome one (λ (x : HeldCommit). after < count.told + length (writes_in x.actions))) (sym (some-held None base.told base.manager now pauses.some)) left;
       }
   at-first Seen (Err why) now count events_old events_new taken taken_new stops = tt
 

@@ -16,6 +16,7 @@ use Rattle.tcam_device.specs.Insertion.{IsUncrossed}
 use Rattle.tcam_device.specs.State.{State, IsInUse, state_after, on_device}
 use Rattle.tcam_device.proofs.Spans.{state_after-append}
 use Rattle.tcam_device.proofs.Wider.{slots-after, state_after-on_device}
+use Rattle.commit_writes.specs.Proposal.{proposal}
 use Rattle.commit_writes.specs.declared.Done.{Done}
 use Rattle.commit_writes.specs.Actions.{commit_actions, have_bits, with_drain}
 use Rattle.commit_writes.specs.Bits.{FieldBits, bits_left, bits_with, new_bits}
@@ -40,6 +41,7 @@ use Rattle.replay.specs.Running.{Running, IsOnward, IsRun, first_actions, action
 use Rattle.replay.proofs.course.Course.{Course, Ending, cuts-by_step}
 use Rattle.replay.proofs.course.Returning.{writes-up_to}
 use Rattle.replay.proofs.between.Runs.{in-use, wider}
+use Rattle.replay.proofs.between.Settled.{judged-plain}
 
 -- the plan that another manager goes on with, by the rules and the bits of the first
 pub record GoesBy (slots : ℕ) (mode : Mode) (placement : Placement) (rules : List Rule) (bits : FieldBits) (batch : List Change) (device_slots : ℕ) (state : State) (restarted : Managed) : Type 0 where
@@ -63,7 +65,7 @@ pub record GoesBy (slots : ℕ) (mode : Mode) (placement : Placement) (rules : L
   pub writes_in_use : AllByRecursion (IsInUse slots) made
   pub few : length made ≤ 2 ^ 39
   pub goes_on : GoesOn slots mode bits rules batch state left twin made
-  pub placed : IsRestPlacedBy placement device_slots mode bits rules batch (in_use slots state) done left twin made
+  pub placed : IsRestPlacedBy placement device_slots (proposal mode bits rules batch) (in_use slots state) done left twin made
   pub uncrossed : (version : IpVersion) → AllByRecursion (IsRoute version) rules → OnlyChangesRoutes version batch → IsUncrossed (prefix_lengths version) (rest_insertions goes_on.shape)
 
 pub goes-by : (slots : ℕ) (mode : Mode) (placement : Placement) (begun : Managed) (parts : Parts) (batch : List Change) (device_slots : ℕ) (state : State) (restarted : Managed) → ArePartsOf begun parts
@@ -286,7 +288,8 @@ module _ (slots : ℕ) (run : Running) (onward : IsOnward slots run) (is : IsRun
       subst (λ fate. HasEffects (setting_of run) began_first (commit_act fate) (carried (setting_of run) began_first ((firsts ++ onward.some.made) ++ onward.some.left) ++ Prints line_over ∷ []) (progress_of slots ended_over)) (sym onward.fate_is)
       (subst (λ setting. HasEffects setting began_first (commit_act (fates.RestartedAfter onward.after)) (carried setting began_first ((firsts ++ onward.some.made) ++ onward.some.left) ++ Prints line_over ∷ []) (progress_of slots ended_over)) (sym setting-first)
       (subst (λ actions. HasEffects first_setting began_first (commit_act (fates.RestartedAfter onward.after)) (carried first_setting began_first actions ++ Prints line_over ∷ []) (progress_of slots ended_over)) (sym all-over)
-      (subst (λ (verdict : Verdict). Judged (Crashes onward.after) first_setting began_first verdict all_effects (progress_of slots ended_over)) (sym onward.accepted) (inr restarts))))
+      (judged-plain (Crashes onward.after) first_setting began_first all_effects (progress_of slots ended_over) onward.plain
+      (subst (λ (verdict : Verdict). Judged (Crashes onward.after) first_setting began_first verdict all_effects (progress_of slots ended_over)) (sym onward.accepted) (inr restarts)))))
     where
       first_setting : Setting
       first_setting = setting_of (record run { manager = begun })

@@ -63,6 +63,7 @@ module _ (slots : ℕ) (run : Running) (onward : IsOnward slots run) (is : IsRun
       record {
         after = onward.after;
         fate_is = onward.fate_is;
+        plain = onward.plain;
         begun = onward.begun;
         holds = onward.holds;
         accepted = onward.accepted;
@@ -173,6 +174,7 @@ module _ (slots : ℕ) (run : Running) (onward : IsOnward slots run) (is : IsRun
             → IsRun (record (ended_over slots run onward is inside) { pending = pending; commits = commits; writes = writes })
         closed-run pending commits writes changes few = record {
           changes = changes;
+          asks = is.asks;
           routes = λ version route. routes_after version onward.begun.rules run.pending (routes-first slots run onward is inside version route) (is.changes version route);
           some_slots = subst (λ n. 1 ≤ n) (ap (λ (manager : Managed). manager.slots) onward.some.now_is) is.some_slots;
           most_slots = subst (λ n. n ≤ most_slots) (ap (λ (manager : Managed). manager.slots) onward.some.now_is) is.most_slots;

@@ -9,7 +9,9 @@ use Rattle.tcam_device.proofs.Wider.{all_take}
 use Rattle.commit_writes.specs.Actions.{up_to_writes}
 use Rattle.commit_writes.specs.InFlight.{AreCurrent}
 use Rattle.commit_writes.proofs.WritesIn.{writes_in-append}
-use Rattle.batch_order.specs.Managed.{HeldCommit, Managed, live_now, writes_due}
+use Rattle.batch_order.specs.Managed.{HeldCommit, Managed, Way, live_now}
+use Rattle.batch_order.specs.Managed.Way.{On, Back}
+use Rattle.batch_order.specs.Steps.{is_back}
 use Rattle.replay.specs.declared.RunFault.{RunFault}
 use Rattle.replay.specs.declared.RunFault.TheVariants as fault
 use Rattle.replay.specs.declared.fate.Fate.TheVariants as fates
@@ -23,17 +25,18 @@ use Rattle.replay.specs.Fates.{IsUpTo, commit_act}
 use Rattle.replay.specs.Pausing.{MakesUpTo}
 use Rattle.replay.specs.Crashing.{ComesToCrash, HasMoreThan}
 use Rattle.replay.specs.InFlight.{IsSeen}
-use Rattle.replay.specs.Running.{Running, HasCome, IsHalfway, IsRun, IsMidCommit, MakesSome, first_actions, goes_back, left_in, actions_left, progress_of, setting_of, turns_back, watching, snapshot}
+use Rattle.replay.specs.Running.{Running, HasCome, IsHalfway, IsRun, IsMidCommit, MakesSome, first_actions, goes_back, actions_left, progress_of, setting_of, turns_back, watching, snapshot}
 use Rattle.replay.specs.Unfinished.{IsUnfinished, StandsHalfway}
 use Rattle.replay.specs.Outside.{outside}
 use Rattle.replay.proofs.course.Course.{Course, at-more, breaks, count_of, does-made, later, stays, told-then}
-use Rattle.replay.proofs.making.Upto.{left-writes, next-up_to}
+use Rattle.replay.proofs.making.Upto.{left-writes, next-up_to, whole-left}
 use Rattle.replay.proofs.making.Acting.{some-held}
 use Rattle.replay.proofs.between.Halfway.{begun-is, few-left, halfway-more, held-same, held_begun, run_begun, setting-begun, told-from, whole-forward, whole_actions}
 use Rattle.replay.proofs.making.Making.{then-left}
 use Rattle.replay.proofs.course.Resuming.{began, left-in_use, so_far, state-now, within_begun}
 use Rattle.replay.proofs.course.Returning.{writes-up_to}
 use Rattle.replay.proofs.between.Runs.{commits-with, run_after}
+use Rattle.replay.proofs.between.Settled.{cut-plain}
 
 -- what comes before a crash does so in two parts
 before-then : (after : ℕ) (first left more rest : List Action) → length (writes_in first) ≤ after → left ≡ more ++ rest → IsUpTo after first left → IsUpTo (after - length (writes_in first)) more rest → IsUpTo after (first ++ more) rest
@@ -128,15 +131,8 @@ module _ (slots after : ℕ) (base : Running) (half : IsHalfway (crashing after 
     size = is.size;
     in_use = subst (AllByRecursion (IsInUse run.manager.slots)) (sym (writes-up_to (after - length (writes_in half.some.made)) half.some.left))
         (all_take (IsInUse run.manager.slots) (after - length (writes_in half.some.made)) (writes_in half.some.left) (left-in_use slots run half is inside));
-    cuts = λ some back due parts. inr (record {
-      after = after;
-      act_is = refl;
-      accepted = accepted-run;
-      made = half.holds.1.made;
-      crash = crashes-in;
-      back = back;
-      parts = ap (carried_so_far (setting_of run) first) (sym whole-first) ∙ parts;
-    });
+    cuts = λ some back due parts. inr (cut-plain (setting_of run) first after _ due half.plain accepted-run half.holds.1.made crashes-in back
+        (ap (carried_so_far (setting_of run) first) (sym whole-first) ∙ parts));
   }
 
   -- at the crash its effects are all that come before
@@ -248,34 +244,29 @@ module _ (slots after : ℕ) (base : Running) (half : IsHalfway (crashing after 
         (cuts (enough-left now stops.some) seen))
 
 -- one that isn't taken back isn't turned round
-pub goes-straight : (turned : Option ℕ) (actions : List Action) → turns_back turned None actions ≡ false → turned ≡ None
-goes-straight None actions on = refl
-goes-straight (Some undone) actions on = absurd (let bad : true ≡ false = on in cc)
+pub goes-straight : (way : Way) (actions : List Action) → turns_back way None actions ≡ false → is_back way ≡ false
+goes-straight (On undo) actions on = refl
+goes-straight (Back undone) actions on = absurd (let bad : true ≡ false = on in cc)
 
--- so the writes that are due are those of its actions
+-- the commit that is to crash
 module _ (after : ℕ) (run : Running) (half : IsHalfway (crashing after run)) where
   abbrev one : HeldCommit
   one = half.some.one
 
-  pub one-turned : one.turned ≡ None
-  one-turned = goes-straight one.turned one.actions (half.some.same.back ∙ ap (goes_back None) (held-same (crashing after run) half))
+  pub one-turned : is_back one.way ≡ false
+  one-turned = goes-straight one.way one.actions (half.some.same.back ∙ ap (goes_back None) (held-same (crashing after run) half))
 
   held-one : run.manager.held ≡ Some one
   held-one = some-held None 0 half.begun run.manager half.some
 
-  due-one : writes_due one ≡ writes_in one.actions
-  due-one = ap (λ turned. elim turned [ None ↦ writes_in one.actions | Some undone ↦ one.undo ]) one-turned
-
   left-one : actions_left None run.manager.state one ≡ one.actions
-  left-one = ap (λ turned. left_in turned None run.manager.state one.actions one.undo) one-turned
+  left-one = whole-left run.manager.state one
 
-  pub held-forward : IfSome run.manager.held (λ held. held.turned ≡ None)
-  held-forward = subst (λ held. IfSome held (λ (x : HeldCommit). x.turned ≡ None)) (sym held-one) one-turned
+  pub held-forward : IfSome run.manager.held (λ held. is_back held.way ≡ false)
+  held-forward = subst (λ held. IfSome held (λ (x : HeldCommit). is_back x.way ≡ false)) (sym held-one) one-turned
 
   pub held-more : HasMoreThan after run → IfSome run.manager.held (λ held. after < run.told + length (writes_in held.actions))
-  held-more more =
-      let due : after < run.told + length (writes_due one) = subst (λ held. IfSome held (λ (x : HeldCommit). after < run.told + length (writes_due x))) held-one more in
-      subst (λ held. IfSome held (λ (x : HeldCommit). after < run.told + length (writes_in x.actions))) (sym held-one) (subst (λ writes. after < run.told + length writes) due-one due)
+  held-more more = more
 
   pub held-few : IfSome run.manager.held (λ held. run.told + length (writes_in held.actions) ≤ 2 ^ 40)
   held-few =
@@ -293,20 +284,20 @@ pub record IsToStop (after : ℕ) (run : Running) : Type 0 where
   pub more : after < length half.holds.1.made
 
 -- all of its writes are those that were told and those that are left
-pub all-writes : (after : ℕ) (run : Running) (half : IsHalfway (crashing after run)) → length half.holds.1.made ≡ run.told + length (writes_due half.some.one)
+pub all-writes : (after : ℕ) (run : Running) (half : IsHalfway (crashing after run)) → length half.holds.1.made ≡ run.told + length (writes_in half.some.one.actions)
 all-writes after run half =
     let told = half.told in
     let whole : length (writes_in (whole_actions (crashing after run) half)) ≡ length half.holds.1.made = ap length (whole-forward (crashing after run) half refl).1 in
     let parts : length (writes_in (whole_actions (crashing after run) half)) ≡ length (writes_in half.some.made) + length (writes_in half.some.left) =
     ap length (writes_in-append half.some.made half.some.left) ∙ length-append (writes_in half.some.made) (writes_in half.some.left) in
-    let due : length (writes_due half.some.one) ≡ length (writes_in half.some.left) =
+    let due : length (writes_in half.some.one.actions) ≡ length (writes_in half.some.left) =
     ap length (sym (left-writes run.manager.state half.some.one)) ∙ ap (λ actions. length (writes_in actions)) half.some.left_is in
     omega arith
 
 pub more-made : (after : ℕ) (run : Running) (half : IsHalfway (crashing after run)) → HasMoreThan after run → after < length half.holds.1.made
 more-made after run half more =
-    let due : after < run.told + length (writes_due half.some.one) =
-    subst (λ held. IfSome held (λ (one : HeldCommit). after < run.told + length (writes_due one))) (ap (λ (manager : Managed). manager.held) half.some.now_is) more in
+    let due : after < run.told + length (writes_in half.some.one.actions) =
+    subst (λ held. IfSome held (λ (one : HeldCommit). after < run.told + length (writes_in one.actions))) (ap (λ (manager : Managed). manager.held) half.some.now_is) more in
     let all = all-writes after run half in
     omega arith
 
@@ -326,10 +317,10 @@ to-stop after run is held fate_is more =
     record { same = same; is = is_crashing; half = half; more = more-made after run half more }
 
 -- few writes were told and are left
-pub few-due : (after : ℕ) (run : Running) → IsRun run → IsSome run.manager.held → run.fate ≡ fates.CrashAfter after → IfSome run.manager.held (λ held. run.told + length (writes_due held) ≤ 2 ^ 40)
+pub few-due : (after : ℕ) (run : Running) → IsRun run → IsSome run.manager.held → run.fate ≡ fates.CrashAfter after → IfSome run.manager.held (λ held. run.told + length (writes_in held.actions) ≤ 2 ^ 40)
 few-due after run is held fate_is =
     let half = first-half after run (subst IsRun (ap (λ fate. record run { fate = fate }) fate_is) is) held in
-    subst (λ held. IfSome held (λ (x : HeldCommit). run.told + length (writes_due x) ≤ 2 ^ 40)) (sym (held-one after run half))
+    subst (λ held. IfSome held (λ (x : HeldCommit). run.told + length (writes_in x.actions) ≤ 2 ^ 40)) (sym (held-one after run half))
     (subst (λ writes. run.told + length writes ≤ 2 ^ 40) (left-writes run.manager.state half.some.one)
     (subst (λ held. IfSome held (λ (x : HeldCommit). run.told + length (writes_in (actions_left None run.manager.state x)) ≤ 2 ^ 40)) (held-one after run half) (few-left (crashing after run) half)))
 

@@ -9,7 +9,7 @@ use Rattle.batch_order.specs.Managed.{HeldCommit, Managed}
 use Rattle.replay.specs.declared.watch.Count.{Count}
 use Rattle.replay.specs.declared.fate.Fate.{Fate}
 use Rattle.replay.specs.declared.ActFault.{ActFault}
-use Rattle.replay.specs.declared.ActFault.TheVariants.{BatchFull, ProbesFull, Held, Stopped}
+use Rattle.replay.specs.declared.ActFault.TheVariants.{BatchFull, ChangesPending, ProbesFull, Held, Stopped}
 use Rattle.replay.specs.declared.RunFault.{RunFault}
 use Rattle.replay.specs.declared.RunFault.TheVariants as fault
 use Rattle.replay.specs.declared.fate.Fate.TheVariants as fates
@@ -75,6 +75,7 @@ words-kept new (Err (Stopped fault.Sink)) flight_old flight_new same none never 
 words-kept new (Err (Stopped fault.Device)) flight_old flight_new same none never = absurd (never refl)
 words-kept new (Err (Stopped fault.Memory)) flight_old flight_new same none never = λ whole. same
 words-kept new (Err BatchFull) flight_old flight_new same none never = same
+words-kept new (Err ChangesPending) flight_old flight_new same none never = same
 words-kept new (Err ProbesFull) flight_old flight_new same none never = same
 words-kept new (Err (Held left)) flight_old flight_new same none never = same
 
@@ -90,6 +91,7 @@ words-marked mid new (Err (Stopped fault.Sink)) flight_old flight_new is left = 
 words-marked mid new (Err (Stopped fault.Device)) flight_old flight_new is left = subst (λ (run : Running). AreLeft run flight_new) (sym is) left
 words-marked mid new (Err (Stopped fault.Memory)) flight_old flight_new is left = λ whole. left (unbroken mid.broken (sym (ap (λ (run : Running). run.broken) is) ∙ whole))
 words-marked mid new (Err BatchFull) flight_old flight_new is left = left
+words-marked mid new (Err ChangesPending) flight_old flight_new is left = left
 words-marked mid new (Err ProbesFull) flight_old flight_new is left = left
 words-marked mid new (Err (Held left_number)) flight_old flight_new is left = left
 

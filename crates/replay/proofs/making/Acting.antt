@@ -1,5 +1,5 @@
 -- The actions of a commit under way, one after the other, on the way there and on the way back.
-use Rattle.std.proofs.Common.{◌≡◌, ℕ, zero, suc, ◌+◌, ◌-◌, ◌<◌, ◌≤◌, ◌⊎◌, inl, inr, Bool, true, false, List, [], ◌∷◌, ◌++◌, length, map, slice_get, Option, Some, None, refl, sym, ap, ◌∙◌, subst, append_assoc, arith}
+use Rattle.std.proofs.Common.{◌≡◌, ℕ, zero, suc, ◌+◌, ◌-◌, ◌<◌, ◌≤◌, ◌⊎◌, inl, inr, Bool, true, false, List, [], ◌∷◌, ◌++◌, length, map, Option, Some, None, Result, refl, sym, ap, ◌∙◌, subst, append_assoc, arith}
 use Rattle.std.specs.Prelude.{nat_lt, nat_le, ◌&&◌}
 use Rattle.std.proofs.lemmas.Bool.{lt-ltb, le-ltb, ltb-true, ltb-false, leb-true, leb-false}
 use Rattle.tcam_device.specs.declared.Write.{Write}
@@ -14,18 +14,21 @@ use Rattle.commit_writes.specs.declared.Done.{Done}
 use Rattle.rule_model.specs.declared.Rule.{Rule}
 use Rattle.batch_order.specs.declared.Step.{Step}
 use Rattle.batch_order.specs.declared.Step.TheVariants as step
-use Rattle.batch_order.specs.Managed.{HeldCommit, Managed}
+use Rattle.batch_order.specs.Managed.{HeldCommit, Managed, Way}
+use Rattle.batch_order.specs.Managed.Way.{On, Back}
 use Rattle.tcam_device.specs.Insertion.{is_table_write}
-use Rattle.batch_order.specs.Steps.{Steps, StepsEither, awaits_drain, current_back, due_write, next_of}
+use Rattle.batch_order.specs.CarriedOut.{HasRoomBothWays}
+use Rattle.batch_order.specs.declared.AbortFault.{AbortFault}
+use Rattle.batch_order.proofs.Leaving.{turns_leave}
+use Rattle.batch_order.specs.Steps.{Aborts, Steps, StepsOn, awaits_drain, current_by, due_write, next_of, way_by}
 use Rattle.replay.specs.Running.{IsSame, MakesSome, TurnsBackAt, goes_back, left_in, actions_left, trial_rest, trial_left, turned_back}
 
 -- a commit by its parts
-abbrev pub held_of : Bool → List Action → List Write → Option ℕ → Done → List Rule → FieldBits → FieldBits → FieldBits → HeldCommit
-held_of prepared actions undo turned counts rules during bits current = record {
+abbrev pub held_of : Bool → List Action → Way → Done → List Rule → FieldBits → FieldBits → FieldBits → HeldCommit
+held_of prepared actions way counts rules during bits current = record {
   prepared = prepared;
   actions = actions;
-  undo = undo;
-  turned = turned;
+  way = way;
   counts = counts;
   rules = rules;
   during = during;
@@ -34,15 +37,15 @@ held_of prepared actions undo turned counts rules during bits current = record {
 }
 
 -- a commit isn't turned round by what has come: it is already, it is no trial, or it may make more or has none to make
-abbrev pub Straight : Option ℕ → Option ℕ → List Action → Type 0
-Straight (Some undone) rest actions = Unit {0}
-Straight None None actions = Unit {0}
-Straight None (Some more) actions = (0 < more) ⊎ (length (writes_in actions) ≡ 0)
+abbrev pub Straight : Way → Option ℕ → List Action → Type 0
+Straight (Back undone) rest actions = Unit {0}
+Straight (On undo) None actions = Unit {0}
+Straight (On undo) (Some more) actions = (0 < more) ⊎ (length (writes_in actions) ≡ 0)
 
-pub trial-goes : (more : ℕ) (state : State) (actions : List Action) (undo : List Write) → nat_lt more (length (writes_in actions)) ≡ true → left_in None (Some more) state actions undo ≡ trial_left more state actions undo
+pub trial-goes : (more : ℕ) (state : State) (actions : List Action) (undo : List Write) → nat_lt more (length (writes_in actions)) ≡ true → left_in (On undo) (Some more) state actions ≡ trial_left more state actions undo
 trial-goes more state actions undo back = ap (λ one. elim one [ true ↦ trial_left more state actions undo | false ↦ actions ]) back
 
-pub trial-stays : (more : ℕ) (state : State) (actions : List Action) (undo : List Write) → nat_lt more (length (writes_in actions)) ≡ false → left_in None (Some more) state actions undo ≡ actions
+pub trial-stays : (more : ℕ) (state : State) (actions : List Action) (undo : List Write) → nat_lt more (length (writes_in actions)) ≡ false → left_in (On undo) (Some more) state actions ≡ actions
 trial-stays more state actions undo on = ap (λ one. elim one [ true ↦ trial_left more state actions undo | false ↦ actions ]) on
 
 none-below : (more : ℕ) → nat_lt more 0 ≡ false
@@ -81,23 +84,23 @@ pub data GoesOn (rest : Option ℕ) (now : Managed) (held : HeldCommit) (words :
   Waits : (left : List Action) → actions_left rest now.state held ≡ Drained ∷ left → awaits_drain (Some held) ≡ true → 0 < words → did ≡ step.Waiting words → new ≡ now → GoesOn rest now held words did new
 
 module _ (now : Managed) (prepared : Bool) (counts : Done) (rules : List Rule) (during bits current : FieldBits) (did : Step) (new : Managed) where
-  abbrev of : List Action → List Write → Option ℕ → HeldCommit
-  of actions undo turned = held_of prepared actions undo turned counts rules during bits current
+  abbrev of : List Action → Way → HeldCommit
+  of actions way = held_of prepared actions way counts rules during bits current
 
-  abbrev on-write : Write → List Action → List Write → HeldCommit
-  on-write write actions undo = of actions (restoring now.state write ∷ undo) None
+  abbrev on-write : Write → List Action → Way → HeldCommit
+  on-write write actions way = held_of prepared actions (way_by now.state write way) counts rules during bits (current_by now.bits current (is_table_write write))
 
-  abbrev on-drain : List Action → List Write → HeldCommit
-  on-drain actions undo = held_of prepared actions undo None counts rules during bits during
+  abbrev on-drain : List Action → Way → HeldCommit
+  on-drain actions way = held_of prepared actions way counts rules during bits during
 
-  write-trial : (more : ℕ) (write : Write) (actions : List Action) (undo : List Write) → new ≡ record now { state = apply now.state write; held = Some (on-write write actions undo) }
-      → ActsOnce (Some (suc more)) now (of (Written write ∷ actions) undo None) (Written write) new
+  write-trial : (more : ℕ) (write : Write) (actions : List Action) (undo : List Write) → new ≡ record now { state = apply now.state write; held = Some (on-write write actions (On undo)) }
+      → ActsOnce (Some (suc more)) now (of (Written write ∷ actions) (On undo)) (Written write) new
   write-trial more write actions undo is = go (nat_lt more (length (writes_in actions))) refl
     where
       less : ◌≡◌ {A = Option ℕ} (Some more) (Some (suc more - 1))
       less = let same : more ≡ suc more - 1 = omega arith in ap Some same
 
-      go : (back : Bool) → nat_lt more (length (writes_in actions)) ≡ back → ActsOnce (Some (suc more)) now (of (Written write ∷ actions) undo None) (Written write) new
+      go : (back : Bool) → nat_lt more (length (writes_in actions)) ≡ back → ActsOnce (Some (suc more)) now (of (Written write ∷ actions) (On undo)) (Written write) new
       go true back =
           let front = up_to_writes more actions in
           record {
@@ -106,7 +109,7 @@ module _ (now : Managed) (prepared : Bool) (counts : Done) (rules : List Rule) (
                 ∙ ap (λ writes. Written write ∷ (front ++ map Written writes)) (append_assoc (undo_writes (apply now.state write) (writes_in front)) (restoring now.state write ∷ []) undo);
             next = Some more;
             next_is = less;
-            one = on-write write actions undo;
+            one = on-write write actions (On undo);
             new_is = is;
             left_is = trial-goes more (apply now.state write) actions (restoring now.state write ∷ undo) back;
             same = record { prepared = refl; counts = refl; rules = refl; during = refl; bits = refl; back = sym (lt-suc more (length (writes_in actions))) };
@@ -116,27 +119,27 @@ module _ (now : Managed) (prepared : Bool) (counts : Done) (rules : List Rule) (
         is = trial-stays (suc more) now.state (Written write ∷ actions) undo (lt-suc more (length (writes_in actions)) ∙ on);
         next = Some more;
         next_is = less;
-        one = on-write write actions undo;
+        one = on-write write actions (On undo);
         new_is = is;
         left_is = trial-stays more (apply now.state write) actions (restoring now.state write ∷ undo) on;
         same = record { prepared = refl; counts = refl; rules = refl; during = refl; bits = refl; back = sym (lt-suc more (length (writes_in actions))) };
       }
 
   -- a trial before its drain
-  drain-left : (more : ℕ) (actions : List Action) (undo : List Write) → Straight None (Some more) (Drained ∷ actions)
-      → (left : List Action) × (left_in None (Some more) now.state (Drained ∷ actions) undo ≡ Drained ∷ left) × (left_in None (Some more) now.state actions undo ≡ left)
+  drain-left : (more : ℕ) (actions : List Action) (undo : List Write) → Straight (On undo) (Some more) (Drained ∷ actions)
+      → (left : List Action) × (left_in (On undo) (Some more) now.state (Drained ∷ actions) ≡ Drained ∷ left) × (left_in (On undo) (Some more) now.state actions ≡ left)
   drain-left more actions undo straight = go more (nat_lt more (length (writes_in actions))) refl straight
     where
-      go : (more : ℕ) (back : Bool) → nat_lt more (length (writes_in actions)) ≡ back → Straight None (Some more) (Drained ∷ actions)
-          → (left : List Action) × (left_in None (Some more) now.state (Drained ∷ actions) undo ≡ Drained ∷ left) × (left_in None (Some more) now.state actions undo ≡ left)
+      go : (more : ℕ) (back : Bool) → nat_lt more (length (writes_in actions)) ≡ back → Straight (On undo) (Some more) (Drained ∷ actions)
+          → (left : List Action) × (left_in (On undo) (Some more) now.state (Drained ∷ actions) ≡ Drained ∷ left) × (left_in (On undo) (Some more) now.state actions ≡ left)
       go more false on straight = (actions, trial-stays more now.state (Drained ∷ actions) undo on, trial-stays more now.state actions undo on)
       go (suc more) true back straight =
           (trial_left (suc more) now.state actions undo, trial-goes (suc more) now.state (Drained ∷ actions) undo back, trial-goes (suc more) now.state actions undo back)
       go zero true back (inl some) = absurd (omega arith)
       go zero true back (inr none) = absurd (let some = ltb-true 0 (length (writes_in actions)) back in omega arith)
 
-  drain-trial : (more : ℕ) (actions : List Action) (undo : List Write) → Straight None (Some more) (Drained ∷ actions) → new ≡ record now { held = Some (on-drain actions undo) }
-      → ActsOnce (Some more) now (of (Drained ∷ actions) undo None) Drained new
+  drain-trial : (more : ℕ) (actions : List Action) (undo : List Write) → Straight (On undo) (Some more) (Drained ∷ actions) → new ≡ record now { held = Some (on-drain actions (On undo)) }
+      → ActsOnce (Some more) now (of (Drained ∷ actions) (On undo)) Drained new
   drain-trial more actions undo straight is =
       let left = drain-left more actions undo straight in
       record {
@@ -144,69 +147,83 @@ module _ (now : Managed) (prepared : Bool) (counts : Done) (rules : List Rule) (
         is = left.1;
         next = Some more;
         next_is = (let same : more ≡ more - 0 = omega arith in ap Some same);
-        one = on-drain actions undo;
+        one = on-drain actions (On undo);
         new_is = is;
         left_is = left.2;
         same = record { prepared = refl; counts = refl; rules = refl; during = refl; bits = refl; back = refl };
       }
 
-  goes-parts : (words : ℕ) (rest : Option ℕ) (actions : List Action) (undo : List Write) (turned : Option ℕ) → Straight turned rest actions → StepsEither now (of actions undo turned) words turned did new
-      → GoesOn rest now (of actions undo turned) words did new
-  goes-parts words rest actions [] (Some undone) straight on = Reverts undone refl refl on.0 on.1
-  goes-parts words rest actions (write ∷ undo) (Some undone) straight on =
+  goes-parts : (words : ℕ) (rest : Option ℕ) (actions : List Action) (way : Way) → Straight way rest actions → StepsOn now (of actions way) words actions did new
+      → GoesOn rest now (of actions way) words did new
+  goes-parts words rest [] (Back undone) straight on = Reverts undone refl refl on.0 on.1
+  goes-parts words rest (Written write ∷ actions) (Back undone) straight on =
       MakesWrite write
       (record {
-        left = map Written undo;
+        left = actions;
         is = refl;
         next = trial_rest rest 1;
         next_is = refl;
-        one = record (of actions undo (Some undone)) { current = current_back now.bits current (is_table_write write) };
+        one = on-write write actions (Back undone);
         new_is = on.1;
         left_is = refl;
         same = record { prepared = refl; counts = refl; rules = refl; during = refl; bits = refl; back = refl };
       })
       on.0
-  goes-parts words None [] undo None straight on = Finishes refl refl on.0 on.1
-  goes-parts words (Some more) [] undo None straight on = Finishes (trial-stays more now.state [] undo (none-below more)) (none-below more) on.0 on.1
-  goes-parts words None (Written write ∷ actions) undo None straight on =
+  goes-parts zero rest (Drained ∷ actions) (Back undone) straight on =
+      PassesDrain
+      (record {
+        left = actions;
+        is = refl;
+        next = trial_rest rest 0;
+        next_is = refl;
+        one = on-drain actions (Back undone);
+        new_is = on.1;
+        left_is = refl;
+        same = record { prepared = refl; counts = refl; rules = refl; during = refl; bits = refl; back = refl };
+      })
+      refl on.0
+  goes-parts (suc words) rest (Drained ∷ actions) (Back undone) straight on = Waits actions refl refl (omega arith) on.0 on.1
+  goes-parts words None [] (On undo) straight on = Finishes refl refl on.0 on.1
+  goes-parts words (Some more) [] (On undo) straight on = Finishes (trial-stays more now.state [] undo (none-below more)) (none-below more) on.0 on.1
+  goes-parts words None (Written write ∷ actions) (On undo) straight on =
       MakesWrite write
       (record {
         left = actions;
         is = refl;
         next = None;
         next_is = refl;
-        one = on-write write actions undo;
+        one = on-write write actions (On undo);
         new_is = on.1;
         left_is = refl;
         same = record { prepared = refl; counts = refl; rules = refl; during = refl; bits = refl; back = refl };
       })
       on.0
-  goes-parts words (Some (suc more)) (Written write ∷ actions) undo None straight on = MakesWrite write (write-trial more write actions undo on.1) on.0
-  goes-parts words (Some zero) (Written write ∷ actions) undo None (inl some) on = absurd (omega arith)
-  goes-parts words (Some zero) (Written write ∷ actions) undo None (inr none) on = absurd (omega arith)
-  goes-parts zero None (Drained ∷ actions) undo None straight on =
+  goes-parts words (Some (suc more)) (Written write ∷ actions) (On undo) straight on = MakesWrite write (write-trial more write actions undo on.1) on.0
+  goes-parts words (Some zero) (Written write ∷ actions) (On undo) (inl some) on = absurd (omega arith)
+  goes-parts words (Some zero) (Written write ∷ actions) (On undo) (inr none) on = absurd (omega arith)
+  goes-parts zero None (Drained ∷ actions) (On undo) straight on =
       PassesDrain
       (record {
         left = actions;
         is = refl;
         next = None;
         next_is = refl;
-        one = on-drain actions undo;
+        one = on-drain actions (On undo);
         new_is = on.1;
         left_is = refl;
         same = record { prepared = refl; counts = refl; rules = refl; during = refl; bits = refl; back = refl };
       })
       refl on.0
-  goes-parts zero (Some more) (Drained ∷ actions) undo None straight on = PassesDrain (drain-trial more actions undo straight on.1) refl on.0
-  goes-parts (suc words) None (Drained ∷ actions) undo None straight on = Waits actions refl refl (omega arith) on.0 on.1
-  goes-parts (suc words) (Some more) (Drained ∷ actions) undo None straight on =
+  goes-parts zero (Some more) (Drained ∷ actions) (On undo) straight on = PassesDrain (drain-trial more actions undo straight on.1) refl on.0
+  goes-parts (suc words) None (Drained ∷ actions) (On undo) straight on = Waits actions refl refl (omega arith) on.0 on.1
+  goes-parts (suc words) (Some more) (Drained ∷ actions) (On undo) straight on =
       let left = drain-left more actions undo straight in
       Waits left.0 left.1 refl (omega arith) on.0 on.1
 
-pub goes-on : (rest : Option ℕ) (now : Managed) (held : HeldCommit) (words : ℕ) (did : Step) (new : Managed) → now.held ≡ Some held → Straight held.turned rest held.actions → Steps now words now.held did new
+pub goes-on : (rest : Option ℕ) (now : Managed) (held : HeldCommit) (words : ℕ) (did : Step) (new : Managed) → now.held ≡ Some held → Straight held.way rest held.actions → Steps now words now.held did new
     → GoesOn rest now held words did new
 goes-on rest now held words did new is straight steps =
-    goes-parts now held.prepared held.counts held.rules held.during held.bits held.current did new words rest held.actions held.undo held.turned straight (subst (λ one. Steps now words one did new) is steps)
+    goes-parts now held.prepared held.counts held.rules held.during held.bits held.current did new words rest held.actions held.way straight (subst (λ one. Steps now words one did new) is steps)
 
 -- ---- a trial is turned round where it is time
 
@@ -216,9 +233,9 @@ pub record IsTurned (rest : Option ℕ) (now : Managed) (held : HeldCommit) (new
   pub new_is : new ≡ record now { held = Some one }
   pub left_is : actions_left rest now.state one ≡ actions_left rest now.state held
   pub same : IsSame rest rest held one
-  pub straight : Straight one.turned rest one.actions
+  pub straight : Straight one.way rest one.actions
 
-is-straight : (rest : Option ℕ) (now : Managed) (held : HeldCommit) (new : Managed) → now.held ≡ Some held → new ≡ now → Straight held.turned rest held.actions → IsTurned rest now held new
+is-straight : (rest : Option ℕ) (now : Managed) (held : HeldCommit) (new : Managed) → now.held ≡ Some held → new ≡ now → Straight held.way rest held.actions → IsTurned rest now held new
 is-straight rest now held new is same straight = record {
   one = held;
   new_is = same ∙ ap (λ one. record now { held = one }) is;
@@ -227,22 +244,22 @@ is-straight rest now held new is same straight = record {
   straight = straight;
 }
 
-none-straight : (turned : Option ℕ) (actions : List Action) → Straight turned None actions
-none-straight (Some undone) actions = tt
-none-straight None actions = tt
+none-straight : (way : Way) (actions : List Action) → Straight way None actions
+none-straight (Back undone) actions = tt
+none-straight (On undo) actions = tt
 
 module _ (now : Managed) (prepared : Bool) (counts : Done) (rules : List Rule) (during bits current : FieldBits) (new : Managed) (limit told : ℕ) where
-  abbrev by : List Action → List Write → Option ℕ → HeldCommit
-  by actions undo turned = held_of prepared actions undo turned counts rules during bits current
+  abbrev by : List Action → Way → HeldCommit
+  by actions way = held_of prepared actions way counts rules during bits current
 
-  turned-now : (actions : List Action) (undo : List Write) (due : Bool) → now.held ≡ Some (by actions undo None) → (nat_le limit told && nat_lt 0 (length (writes_in actions))) ≡ due
-      → new ≡ turned_back now (by actions undo None) None due → IsTurned (Some (limit - told)) now (by actions undo None) new
+  turned-now : (actions : List Action) (undo : List Write) (due : Bool) → now.held ≡ Some (by actions (On undo)) → (nat_le limit told && nat_lt 0 (length (writes_in actions))) ≡ due
+      → new ≡ turned_back now (by actions (On undo)) (On undo) due → IsTurned (Some (limit - told)) now (by actions (On undo)) new
   turned-now actions undo true is due at =
       let late = both-true (nat_le limit told) (nat_lt 0 (length (writes_in actions))) due in
       let over : limit ≤ told = leb-true limit told late.0 in
       let none : limit - told ≡ 0 = omega arith in
-      subst (λ more. IsTurned (Some more) now (by actions undo None) new) (sym none) (record {
-        one = by actions undo (Some (length undo));
+      subst (λ more. IsTurned (Some more) now (by actions (On undo)) new) (sym none) (record {
+        one = by (map Written undo) (Back (length undo));
         new_is = at;
         left_is = sym (trial-goes 0 now.state actions undo late.1);
         same = record { prepared = refl; counts = refl; rules = refl; during = refl; bits = refl; back = sym late.1 };
@@ -253,22 +270,26 @@ module _ (now : Managed) (prepared : Bool) (counts : Done) (rules : List Rule) (
       both-true true true both = (refl, refl)
       both-true true false both = absurd (cc)
       both-true false b both = absurd (cc)
-  turned-now actions undo false is due at = is-straight (Some (limit - told)) now (by actions undo None) new is at (early (nat_le limit told) (nat_lt 0 (length (writes_in actions))) refl refl due)
+  turned-now actions undo false is due at = is-straight (Some (limit - told)) now (by actions (On undo)) new is at (early (nat_le limit told) (nat_lt 0 (length (writes_in actions))) refl refl due)
     where
-      early : (a b : Bool) → nat_le limit told ≡ a → nat_lt 0 (length (writes_in actions)) ≡ b → (nat_le limit told && nat_lt 0 (length (writes_in actions))) ≡ false → Straight None (Some (limit - told)) actions
+      early : (a b : Bool) → nat_le limit told ≡ a → nat_lt 0 (length (writes_in actions)) ≡ b → (nat_le limit told && nat_lt 0 (length (writes_in actions))) ≡ false → Straight (On undo) (Some (limit - told)) actions
       early false b a-is b-is due = inl (let below = leb-false limit told a-is in omega arith)
       early true false a-is b-is due = inr (let none = ltb-false 0 (length (writes_in actions)) b-is in omega arith)
       early true true a-is b-is due = absurd (let both : (true && true) ≡ false = ap (λ one. one && true) (sym a-is) ∙ ap (λ one. nat_le limit told && one) (sym b-is) ∙ due in cc)
 
-  turned-parts : (actions : List Action) (undo : List Write) (turned : Option ℕ) → now.held ≡ Some (by actions undo turned)
-      → new ≡ turned_back now (by actions undo turned) turned (nat_le limit told && nat_lt 0 (length (writes_in actions))) → IsTurned (Some (limit - told)) now (by actions undo turned) new
-  turned-parts actions undo (Some undone) is at = is-straight (Some (limit - told)) now (by actions undo (Some undone)) new is at tt
-  turned-parts actions undo None is at = turned-now actions undo (nat_le limit told && nat_lt 0 (length (writes_in actions))) is refl at
+  turned-parts : (actions : List Action) (way : Way) → now.held ≡ Some (by actions way)
+      → new ≡ turned_back now (by actions way) way (nat_le limit told && nat_lt 0 (length (writes_in actions))) → IsTurned (Some (limit - told)) now (by actions way) new
+  turned-parts actions (Back undone) is at = is-straight (Some (limit - told)) now (by actions (Back undone)) new is at tt
+  turned-parts actions (On undo) is at = turned-now actions undo (nat_le limit told && nat_lt 0 (length (writes_in actions))) is refl at
 
 pub turns-at : (most : Option ℕ) (told : ℕ) (now : Managed) (held : HeldCommit) (new : Managed) → now.held ≡ Some held → TurnsBackAt most told now now.held new → IsTurned (trial_rest most told) now held new
-turns-at None told now held new is turns = is-straight None now held new is turns (none-straight held.turned held.actions)
+turns-at None told now held new is turns = is-straight None now held new is turns (none-straight held.way held.actions)
 turns-at (Some limit) told now held new is turns =
-    turned-parts now held.prepared held.counts held.rules held.during held.bits held.current new limit told held.actions held.undo held.turned is (subst (λ one. TurnsBackAt (Some limit) told now one new) is turns)
+    turned-parts now held.prepared held.counts held.rules held.during held.bits held.current new limit told held.actions held.way is (subst (λ one. TurnsBackAt (Some limit) told now one new) is turns)
+
+-- room for both ways is room for the way back
+pub turns_room : (old new : Managed) (result : Result ℕ AbortFault) → Aborts old old.held result new → (spare : ℕ) → HasRoomBothWays old.held spare → HasRoomBothWays new.held spare
+turns_room old new result did = (turns_leave old new result did).both_ways
 
 -- ---- some of the actions are made
 
@@ -290,24 +311,23 @@ same-then first second third a b c ab bc = record {
 }
 
 -- the next write of a commit that isn't turned round by what has come is the first that is left
-due-parts : (rest : Option ℕ) (state : State) (actions : List Action) (undo : List Write) (turned : Option ℕ) (write : Write) → Straight turned rest actions
-    → elim turned [ None ↦ due_write actions | Some undone ↦ slice_get undo 0 ] ≡ Some write → (left : List Action) × (left_in turned rest state actions undo ≡ Written write ∷ left)
-due-parts rest state actions [] (Some undone) write straight due = absurd (cc)
-due-parts rest state actions (first ∷ undo) (Some undone) write straight due =
-    let same : first ≡ write = let both : Some first ≡ Some write = due in cc in
-    (map Written undo, ap (λ one. Written one ∷ map Written undo) same)
-due-parts rest state [] undo None write straight due = absurd (cc)
-due-parts rest state (Drained ∷ actions) undo None write straight due = absurd (cc)
-due-parts None state (Written first ∷ actions) undo None write straight due =
+due-parts : (rest : Option ℕ) (state : State) (actions : List Action) (way : Way) (write : Write) → Straight way rest actions
+    → due_write actions ≡ Some write → (left : List Action) × (left_in way rest state actions ≡ Written write ∷ left)
+due-parts rest state [] way write straight due = absurd (cc)
+due-parts rest state (Drained ∷ actions) way write straight due = absurd (cc)
+due-parts rest state (Written first ∷ actions) (Back undone) write straight due =
     let same : first ≡ write = let both : Some first ≡ Some write = due in cc in
     (actions, ap (λ one. Written one ∷ actions) same)
-due-parts (Some more) state (Written first ∷ actions) undo None write straight due = go more (nat_lt more (length (writes_in (Written first ∷ actions)))) refl straight
+due-parts None state (Written first ∷ actions) (On undo) write straight due =
+    let same : first ≡ write = let both : Some first ≡ Some write = due in cc in
+    (actions, ap (λ one. Written one ∷ actions) same)
+due-parts (Some more) state (Written first ∷ actions) (On undo) write straight due = go more (nat_lt more (length (writes_in (Written first ∷ actions)))) refl straight
   where
     same : first ≡ write
     same = let both : Some first ≡ Some write = due in cc
 
-    go : (more : ℕ) (back : Bool) → nat_lt more (length (writes_in (Written first ∷ actions))) ≡ back → Straight None (Some more) (Written first ∷ actions)
-        → (left : List Action) × (left_in None (Some more) state (Written first ∷ actions) undo ≡ Written write ∷ left)
+    go : (more : ℕ) (back : Bool) → nat_lt more (length (writes_in (Written first ∷ actions))) ≡ back → Straight (On undo) (Some more) (Written first ∷ actions)
+        → (left : List Action) × (left_in (On undo) (Some more) state (Written first ∷ actions) ≡ Written write ∷ left)
     go more false on straight = (actions, trial-stays more state (Written first ∷ actions) undo on ∙ ap (λ one. Written one ∷ actions) same)
     go (suc more) true back straight =
         let front = up_to_writes more actions in
@@ -316,9 +336,9 @@ due-parts (Some more) state (Written first ∷ actions) undo None write straight
     go zero true back (inl some) = absurd (omega arith)
     go zero true back (inr none) = absurd (omega arith)
 
-pub due-first : (rest : Option ℕ) (state : State) (held : HeldCommit) (write : Write) → Straight held.turned rest held.actions → next_of (Some held) ≡ Some write
+pub due-first : (rest : Option ℕ) (state : State) (held : HeldCommit) (write : Write) → Straight held.way rest held.actions → next_of (Some held) ≡ Some write
     → (left : List Action) × (actions_left rest state held ≡ Written write ∷ left)
-due-first rest state held write straight due = due-parts rest state held.actions held.undo held.turned write straight due
+due-first rest state held write straight due = due-parts rest state held.actions held.way write straight due
 
 -- ---- what a step did, by its answer
 

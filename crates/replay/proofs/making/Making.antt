@@ -179,7 +179,7 @@ module _ (most : Option ℕ) (begun now new : Managed) (watch : Watching) (count
           few = making.few;
         }
 
-    pub turned-straight : Straight making-turned.some.one.turned rest_now making-turned.some.one.actions
+    pub turned-straight : Straight making-turned.some.one.way rest_now making-turned.some.one.actions
     turned-straight = turned.straight
 
   pub may-now : MayTurnBack most begun.held → MayTurnBack most now.held
@@ -252,7 +252,7 @@ module _ (most : Option ℕ) (begun now new : Managed) (watch : Watching) (count
         let before : length making.some.left ≡ length (action ∷ acts.left) = ap length more-left in
         omega arith
 
-  module _ (straight : Straight making.some.one.turned rest_here making.some.one.actions) (step : Step) (steps : Steps now (length flight) now.held step new) where
+  module _ (straight : Straight making.some.one.way rest_here making.some.one.actions) (step : Step) (steps : Steps now (length flight) now.held step new) where
     abbrev pub goes : GoesOn rest_here now making.some.one (length flight) step new
     goes = goes-on rest_here now making.some.one (length flight) step new held-one straight steps
 
@@ -320,7 +320,7 @@ module _ (most : Option ℕ) (begun now new : Managed) (watch : Watching) (count
     goes-idle idle = never-idle rest_here now making.some.one (length flight) step new goes idle
 
   -- where a write is due it is the first of those left
-  pub due-left : Straight making.some.one.turned rest_here making.some.one.actions → IsSome (next_of now.held)
+  pub due-left : Straight making.some.one.way rest_here making.some.one.actions → IsSome (next_of now.held)
       → (due : Write) × (left : List Action) × (making.some.left ≡ action.Written due ∷ left) × (next_of now.held ≡ Some due)
   due-left straight next = go (next_of now.held) refl next
     where
@@ -334,7 +334,7 @@ module _ (most : Option ℕ) (begun now new : Managed) (watch : Watching) (count
 -- a step that waited, and then the drain that was next
 module _ (most : Option ℕ) (begun now new passed : Managed) (watch : Watching) (count count_now count_new : Count) (events_begun events_now events_new : List Action) (flight flight_new : Flight) (spare spare_new : ℕ)
     (making : IsMaking most begun now watch count count_now events_begun events_now flight spare)
-    (straight : Straight making.some.one.turned (trial_rest most (count.told + length (writes_in making.some.made))) making.some.one.actions) (stood : new ≡ now) (steps : Steps new 0 new.held Drained passed) where
+    (straight : Straight making.some.one.way (trial_rest most (count.told + length (writes_in making.some.made))) making.some.one.actions) (stood : new ≡ now) (steps : Steps new 0 new.held Drained passed) where
   abbrev pub passed-acts : ActsOnce (trial_rest most (count.told + length (writes_in making.some.made))) now making.some.one action.Drained passed
   passed-acts =
       let rest = trial_rest most (count.told + length (writes_in making.some.made)) in

@@ -41,7 +41,7 @@ module _ (Seen : Type 0) (most : Option ℕ) (begun now new : Managed) (watch : 
         same = was.same;
       }
 
-  module _ (straight : Straight making.some.one.turned rest_now making.some.one.actions) where
+  module _ (straight : Straight making.some.one.way rest_now making.some.one.actions) where
     module _ (step : Step) (steps : Steps now (length flight) now.held step new) (events : events_new ≡ events_now ++ actions_of step) where
       abbrev pub did : GoesOn rest_now now making.some.one (length flight) step new
       did =

@@ -8,8 +8,9 @@ use Rattle.tcam_device.specs.declared.Action.TheVariants.{Written, Drained}
 use Rattle.tcam_device.specs.State.{State}
 use Rattle.tcam_device.specs.Flight.{Flight, writes_in}
 use Rattle.commit_writes.specs.Actions.{up_to_writes}
-use Rattle.commit_writes.proofs.WritesIn.{writes_of_map, writes_in-append}
-use Rattle.batch_order.specs.Managed.{HeldCommit, Managed, writes_due}
+use Rattle.commit_writes.proofs.WritesIn.{writes_in-append}
+use Rattle.batch_order.specs.Managed.{HeldCommit, Managed, Way}
+use Rattle.batch_order.specs.Managed.Way.{On, Back}
 use Rattle.replay.specs.declared.watch.Count.{Count}
 use Rattle.replay.specs.Fates.{IsBefore, IsUpTo, IsWithinCrash, crash_due}
 use Rattle.replay.specs.Pausing.{Pauses}
@@ -116,13 +117,16 @@ pub before-none : (stop : Option ℕ) (told : ℕ) (left : List Action) → IsBe
 before-none None told left = tt
 before-none (Some after) told left = λ more. let same : after - told ≡ after - told - 0 = omega arith in ap (λ n. up_to_writes n left) same
 
--- a commit that is no trial has these writes left
-pub left-writes : (state : State) (held : HeldCommit) → writes_in (actions_left None state held) ≡ writes_due held
-left-writes state held = go held.turned
+-- a commit that is no trial has all of its actions left
+pub whole-left : (state : State) (held : HeldCommit) → actions_left None state held ≡ held.actions
+whole-left state held = go held.way
   where
-    go : (turned : Option ℕ) → writes_in (left_in turned None state held.actions held.undo) ≡ elim turned [ None ↦ writes_in held.actions | Some undone ↦ held.undo ]
-    go None = refl
-    go (Some undone) = writes_of_map held.undo
+    go : (way : Way) → left_in way None state held.actions ≡ held.actions
+    go (On undo) = refl
+    go (Back undone) = refl
+
+pub left-writes : (state : State) (held : HeldCommit) → writes_in (actions_left None state held) ≡ writes_in held.actions
+left-writes state held = ap writes_in (whole-left state held)
 
 both-parts : (a b : Bool) → (a && b) ≡ true → (a ≡ true) × (b ≡ true)
 both-parts true true both = (refl, refl)
@@ -131,20 +135,20 @@ both-parts false b both = absurd (cc)
 
 module _ (stop : Option ℕ) (begun now : Managed) (watch : Watching) (count count_now : Count) (events_begun events_now : List Action) (flight : Flight) (spare : ℕ)
     (making : IsMaking None begun now watch count count_now events_begun events_now flight spare) where
-  due-writes : length (writes_due making.some.one) ≡ length (writes_in making.some.left)
+  due-writes : length (writes_in making.some.one.actions) ≡ length (writes_in making.some.left)
   due-writes = ap length (sym (left-writes now.state making.some.one)) ∙ ap (λ actions. length (writes_in actions)) making.some.left_is
 
-  due-at : (after : ℕ) → crash_due (Some after) count_now.told now.held ≡ (nat_le after count_now.told && nat_lt 0 (length (writes_due making.some.one)))
+  due-at : (after : ℕ) → crash_due (Some after) count_now.told now.held ≡ (nat_le after count_now.told && nat_lt 0 (length (writes_in making.some.one.actions)))
   due-at after = ap (crash_due (Some after) count_now.told) (some-held None count.told begun now making.some)
 
   early-by : (stop : Option ℕ) → crash_due stop count_now.told now.held ≡ false → AreEarly stop count.told making.some.made making.some.left
   early-by None due = tt
-  early-by (Some after) due = go (nat_le after count_now.told) (nat_lt 0 (length (writes_due making.some.one))) refl refl (sym (due-at after) ∙ due)
+  early-by (Some after) due = go (nat_le after count_now.told) (nat_lt 0 (length (writes_in making.some.one.actions))) refl refl (sym (due-at after) ∙ due)
     where
-      go : (a b : Bool) → nat_le after count_now.told ≡ a → nat_lt 0 (length (writes_due making.some.one)) ≡ b
-          → (nat_le after count_now.told && nat_lt 0 (length (writes_due making.some.one))) ≡ false → IsEarly (after - count.told) making.some.made making.some.left
+      go : (a b : Bool) → nat_le after count_now.told ≡ a → nat_lt 0 (length (writes_in making.some.one.actions)) ≡ b
+          → (nat_le after count_now.told && nat_lt 0 (length (writes_in making.some.one.actions))) ≡ false → IsEarly (after - count.told) making.some.made making.some.left
       go false b a-is b-is none = inl (let below = leb-false after count_now.told a-is in let told = making.come.told in omega arith)
-      go true false a-is b-is none = inr (let few = ltb-false 0 (length (writes_due making.some.one)) b-is in let same = due-writes in omega arith)
+      go true false a-is b-is none = inr (let few = ltb-false 0 (length (writes_in making.some.one.actions)) b-is in let same = due-writes in omega arith)
       go true true a-is b-is none =
           absurd (let both : (true && true) ≡ false = ap (λ one. one && true) (sym a-is) ∙ ap (λ one. nat_le after count_now.told && one) (sym b-is) ∙ none in cc)
 
@@ -154,9 +158,9 @@ module _ (stop : Option ℕ) (begun now : Managed) (watch : Watching) (count cou
       → StopsThere Seen stop watch slots (snapshot begun count (outside events_begun taken)) (snapshot now count_now (outside events_now taken_now))
   pauses-by Seen slots taken taken_now None due within before told = absurd (cc)
   pauses-by Seen slots taken taken_now (Some after) due within before told =
-      let parts = both-parts (nat_le after count_now.told) (nat_lt 0 (length (writes_due making.some.one))) (sym (due-at after) ∙ due) in
+      let parts = both-parts (nat_le after count_now.told) (nat_lt 0 (length (writes_in making.some.one.actions))) (sym (due-at after) ∙ due) in
       let late = leb-true after count_now.told parts.0 in
-      let some = ltb-true 0 (length (writes_due making.some.one)) parts.1 in
+      let some = ltb-true 0 (length (writes_in making.some.one.actions)) parts.1 in
       let same = due-writes in
       let number = making.come.told in
       let sizes : length (writes_in (making.some.made ++ making.some.left)) ≡ length (writes_in making.some.made) + length (writes_in making.some.left) =

@@ -113,6 +113,20 @@ returns-in-Err-BatchFull-clause-gives g c =
           taken _ _ _ _ (c.in-Ok-Some-read_act.ensures.ok ∙ ap Ok c.in-Ok-Some-read_act.field-0-is) (sym (rw c.in-Err-BatchFull.field-0-is at (c.in-Err-BatchFull.ensures.limit c.requires.stands.idle))) (closes-by c.args.run.now c.apply.new.self h.line.number (codes "batch full") _ _ _ same.run (rw same.report at (c.fault-in-Err-BatchFull.ensures.closes.closes which))))),
     )
 
+pub returns-in-Err-ChangesPending-clause-gives : goal.returns-in-Err-ChangesPending-clause-gives
+returns-in-Err-ChangesPending-clause-gives g c =
+    let h = c.in-Ok-Some in (
+      h.ensures.gives.0,
+      h.ensures.gives.1,
+      λ which. rounds-other _ _ _ _ _ _ _ _ _ _ _ _ _ h.ensures.gives.2 c.fault-in-Err-ChangesPending.ensures.kind.3 (λ bytes left now start may s.
+          let same = rw c.in-Err-ChangesPending.field-0-is at (c.in-Err-ChangesPending.ensures.acts which) in
+          rw same.events (closes-grows joins _ _ _ _ _ _ (rw same.report at (c.fault-in-Err-ChangesPending.ensures.closes.closes which))))
+          (λ bytes taken begun now start may parts s.
+          let same = rw c.in-Err-ChangesPending.field-0-is at (c.in-Err-ChangesPending.ensures.acts which) in
+          rw same.events (exit-full _ joins bytes _ begun _ _ start _ s h.line c.next.new.self now (rw h.field-0-is at h.ensures.again) (λ going. rw h.field-0-is at (h.ensures.gives.2.hands going begun now may))
+          taken _ _ _ _ (c.in-Ok-Some-read_act.ensures.ok ∙ ap Ok c.in-Ok-Some-read_act.field-0-is) (sym (rw c.in-Err-ChangesPending.field-0-is at (c.in-Err-ChangesPending.ensures.limit c.requires.stands.idle))) (closes-by c.args.run.now c.apply.new.self h.line.number (codes "changes pending") _ _ _ same.run (rw same.report at (c.fault-in-Err-ChangesPending.ensures.closes.closes which))))),
+    )
+
 pub returns-in-Err-ProbesFull-clause-gives : goal.returns-in-Err-ProbesFull-clause-gives
 returns-in-Err-ProbesFull-clause-gives g c =
     let h = c.in-Ok-Some in (
@@ -176,6 +190,10 @@ returns-in-Ok-None-clause-leaves g c = some-leaves _ _ _ _ _ _ _ (closed-leaves 
 pub returns-in-Err-BatchFull-clause-leaves : goal.returns-in-Err-BatchFull-clause-leaves
 returns-in-Err-BatchFull-clause-leaves g c =
     closes-leaves _ _ _ _ _ _ _ _ _ _ _ _ _ (rw c.in-Err-BatchFull.field-0-is at c.in-Err-BatchFull.ensures.leaves) (λ e. cc) (λ e. cc) c.fault-in-Err-BatchFull.ensures.closes c.fault-in-Err-BatchFull.ensures.kind.2
+
+pub returns-in-Err-ChangesPending-clause-leaves : goal.returns-in-Err-ChangesPending-clause-leaves
+returns-in-Err-ChangesPending-clause-leaves g c =
+    closes-leaves _ _ _ _ _ _ _ _ _ _ _ _ _ (rw c.in-Err-ChangesPending.field-0-is at c.in-Err-ChangesPending.ensures.leaves) (λ e. cc) (λ e. cc) c.fault-in-Err-ChangesPending.ensures.closes c.fault-in-Err-ChangesPending.ensures.kind.2
 
 pub returns-in-Err-ProbesFull-clause-leaves : goal.returns-in-Err-ProbesFull-clause-leaves
 returns-in-Err-ProbesFull-clause-leaves g c =

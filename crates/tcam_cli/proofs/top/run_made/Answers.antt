@@ -8,6 +8,7 @@ use Rattle.replay.specs.Effects.{Setting}
 use Rattle.replay.specs.Run.{Progress}
 use Rattle.report_lines.specs.Text.{family_version}
 use Rattle.replay.specs.Fates.{IsCrash}
+use Rattle.settled_changes.specs.Requested.{changes_in}
 use Rattle.replay.specs.Running.{IsActOf, IsToldIn, progress_of, setting_of}
 use Rattle.replay.specs.Carried.{Carries}
 use Rattle.replay.proofs.between.Leaving.{leaves-line, leaves-then, uncounted}
@@ -21,7 +22,7 @@ use Rattle.tcam_cli.proofs.top.run_made.Goals as goal
 pub acts-init : goal.acts-init
 acts-init g c =
     let none : c.args.run.now.commits ≡ 0 = ap (λ (p : Progress). p.commits) c.requires.begun in
-    let empty : length c.args.run.now.pending ≡ 0 = ap (λ (p : Progress). length p.batch) c.requires.begun in
+    let empty : changes_in c.args.run.now.pending c.args.run.now.asked ≡ 0 = ap (λ (p : Progress). changes_in p.batch p.asked) c.requires.begun in
     let few = c.new-maker.ensures.few in
     let most = c.requires.most_batches in
     record {
@@ -81,13 +82,13 @@ acts-preserved g c =
     let carried : (which : Bool) → Carries (setting_of c.acts.run) (progress_of (g.D.Writable.view c.acts.device).slots c.acts.run) (made_act c.in-Some.made) (progress_of (g.D.Writable.view c.acts.device).slots c.apply.new.self)
     (g.D.Writable.view c.acts.device).events (g.D.Writable.view c.apply.new.device).events (counted which (g.K.Sink.taken c.acts.sink) (g.K.Sink.accepted c.acts.sink)) (counted which (g.K.Sink.taken c.apply.new.sink) (g.K.Sink.accepted c.apply.new.sink)) =
     λ which. rw (← c.act_of_made.ensures.act) (a.acts which (made-at _ _ _ _ _ _ _ _ (here which))) in
-    let are = subst (λ (maker : List Made). AreBatches (2 * c.args.rules) (length c.acts.run.pending) maker) next i.room in
+    let are = subst (λ (maker : List Made). AreBatches (2 * c.args.rules) (changes_in c.acts.run.pending c.acts.run.asked) maker) next i.room in
     record {
       setting = a.setting ∙ i.setting;
       idle = a.idle;
       whole = a.broken;
       commits = omega (arith, one, few, more);
-      room = subst (λ come. AreBatches (2 * c.args.rules) come c.next.new.self) (sym (step-pending (setting_of c.acts.run) (progress_of (g.D.Writable.view c.acts.device).slots c.acts.run) (made_act c.in-Some.made) (carried true).effects (progress_of (g.D.Writable.view c.acts.device).slots c.apply.new.self) (carried true).step)) (made-pending (2 * c.args.rules) c.in-Some.made c.next.new.self (length c.acts.run.pending) are);
+      room = subst (λ come. AreBatches (2 * c.args.rules) come c.next.new.self) (sym (step-pending (setting_of c.acts.run) (progress_of (g.D.Writable.view c.acts.device).slots c.acts.run) (made_act c.in-Some.made) (carried true).effects (progress_of (g.D.Writable.view c.acts.device).slots c.apply.new.self) (carried true).step)) (made-pending (2 * c.args.rules) c.in-Some.made c.next.new.self (changes_in c.acts.run.pending c.acts.run.asked) are);
       made = λ which. rw (← i.setting, ← i.leaves.slots) (made-more _ _ _ _ c.in-Some.made _ _ _ _ _ _ _ (here which) (carried which));
       none_in_flight = a.in_flight;
       leaves = leaves-then _ _ _ _ _ _ _ _ ⊥ ⊥ ⊥ ⊥ (λ e. e) (λ e. e) i.leaves (leaves-none _ _ _ _ _ _ _ _ a.leaves (λ e. cc) (λ e. cc));

@@ -3,12 +3,12 @@ use Rattle.std.proofs.lemmas.Result.{err_from_is_err_and}
 use Rattle.line_words.specs.declared.WordFault.TheVariants.{WordCount}
 use Rattle.line_words.specs.Kinds.{Notation}
 use Rattle.line_words.specs.Notations.{notation_for}
-use Rattle.acl_reader.specs.Grammar.{addition}
-use Rattle.acl_reader.proofs.addition.Goals as goal
+use Rattle.acl_reader.specs.Grammar.{listed_rule}
+use Rattle.acl_reader.proofs.listed_rule.Goals as goal
 
--- eight words and more are no addition
+-- eight words and more are no rule
 eight-words : (notation : Notation) (a b c d e f g : List ℕ) (rest : List (List ℕ)) → 0 < length rest
-    → addition notation (a ∷ b ∷ c ∷ d ∷ e ∷ f ∷ g ∷ rest) ≡ Err WordCount
+    → listed_rule notation (a ∷ b ∷ c ∷ d ∷ e ∷ f ∷ g ∷ rest) ≡ Err WordCount
 eight-words notation a b c d e f g [] more = absurd (omega arith)
 eight-words notation a b c d e f g (word ∷ words) more = refl
 
