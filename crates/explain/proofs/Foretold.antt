@@ -1,19 +1,22 @@
 -- What is foretold comes about, whatever becomes of the trials; and without trials no other refusal does.
-use Rattle.std.proofs.Common.{◌≡◌, ◌≢◌, Bool, true, false, List, [], ◌∷◌, ◌++◌, drop, map, filter, not, refl, sym, ◌∙◌, ap, subst}
+use Rattle.std.proofs.Common.{◌≡◌, ◌≢◌, Bool, true, false, List, [], ◌∷◌, drop, map, filter, not, refl, sym, ◌∙◌, ap, subst}
 use Rattle.std.specs.List.{AllByRecursion}
 use Rattle.rule_model.specs.declared.Rule.{Rule}
 use Rattle.rule_store.specs.declared.Command.{Command as Change}
 use Rattle.rule_store.specs.Batch.{set_after, removes, with_result_after}
-use Rattle.rule_store.specs.Verdict.{Verdict, Accepted, Unsound, OutOfBits, OutOfSlots, verdict}
+use Rattle.rule_store.specs.Verdict.{Verdict, Accepted, Unsound, OutOfBits, OutOfSlots}
+use Rattle.settled_changes.specs.declared.requested.Requested.{Requested}
+use Rattle.settled_changes.specs.declared.requested.Requested.TheVariants.{Nothing, Whole as WholeSet}
+use Rattle.settled_changes.specs.Requested.{asked_behind, asked_with, batch_behind, batch_with, settled_batch, settled_verdict}
 use Rattle.replay.specs.declared.Act.{Act}
-use Rattle.replay.specs.declared.Act.TheVariants.{Command, Probe, Packet, Commit, Trial, Crash}
+use Rattle.replay.specs.declared.Act.TheVariants.{Command, Ask, All, Probe, Packet, Commit, Trial, Crash}
 use Rattle.replay.specs.Effects.{Setting}
 use Rattle.replay.specs.Script.{Script}
 use Rattle.script_runs.specs.declared.Status.{Status}
 use Rattle.script_runs.specs.declared.Status.TheVariants.{Done, Refused, Script as ScriptFault}
 use Rattle.script_runs.specs.Script.{ScriptEnd, Whole, FaultAt, acts_of}
 use Rattle.tcam_cli.specs.Headline.{any_refused, decided, is_back}
-use Rattle.explain.specs.Explained.{IsNoTrial, foretells, judged_by}
+use Rattle.explain.specs.Explained.{IsNoTrial, foretells, judged_by, tried_by}
 
 -- ---- a batch of no changes
 
@@ -48,46 +51,57 @@ either-true : (back a b : Bool) → a ≡ true → b ≡ true → (elim back [ t
 either-true true a b x y = x
 either-true false a b x y = y
 
+-- what a trial comes to, by its changes
+trial-comes : (changes : List Change) (v : Verdict) (a b : Bool) → (changes ≡ [] → a ≡ true → b ≡ true) → tried_by changes v a ≡ true → refused_by v b ≡ true
+trial-comes [] v a b more e = judged-comes v a b (more refl) e
+trial-comes (change ∷ changes) v a b more e = judged-comes v false b (λ told. let bad : false ≡ true = told in absurd (cc)) e
+
 -- ---- all acts
 
 -- what is foretold comes
-pub foretold-comes : (setting : Setting) (backs : List Bool) (rules : List Rule) (batch : List Change) (acts : List Act)
-    → foretells setting.slots setting.mode rules batch acts ≡ true → any_refused setting backs rules batch acts ≡ true
-foretold-comes setting backs rules batch [] e = e
-foretold-comes setting backs rules batch (Command change ∷ acts) e = foretold-comes setting backs rules (batch ++ change ∷ []) acts e
-foretold-comes setting backs rules batch (Probe key ∷ acts) e = foretold-comes setting backs rules batch acts e
-foretold-comes setting backs rules batch (Packet key ∷ acts) e = foretold-comes setting backs rules batch acts e
-foretold-comes setting backs rules batch (Commit ∷ acts) e =
-    judged-comes (verdict setting.slots setting.mode rules batch) (foretells setting.slots setting.mode (set_after rules batch) [] acts) (any_refused setting backs (set_after rules batch) [] acts)
-    (foretold-comes setting backs (set_after rules batch) [] acts) e
-foretold-comes setting backs rules [] (Trial most ∷ acts) e =
-    judged-comes (verdict setting.slots setting.mode rules []) (foretells setting.slots setting.mode (set_after rules []) [] acts)
-    (elim (is_back backs) [ true ↦ any_refused setting (drop 1 backs) rules [] acts | false ↦ any_refused setting (drop 1 backs) (set_after rules []) [] acts ])
-    (λ more. either-true (is_back backs) (any_refused setting (drop 1 backs) rules [] acts) (any_refused setting (drop 1 backs) (set_after rules []) [] acts)
-    (foretold-comes setting (drop 1 backs) rules [] acts (subst (λ old. foretells setting.slots setting.mode old [] acts ≡ true) (set-after-none rules) more))
-    (foretold-comes setting (drop 1 backs) (set_after rules []) [] acts more)) e
-foretold-comes setting backs rules (change ∷ changes) (Trial most ∷ acts) e =
-    judged-comes (verdict setting.slots setting.mode rules (change ∷ changes)) false
-    (elim (is_back backs) [ true ↦ any_refused setting (drop 1 backs) rules [] acts | false ↦ any_refused setting (drop 1 backs) (set_after rules (change ∷ changes)) [] acts ])
-    (λ more. let bad : false ≡ true = more in absurd (cc)) e
-foretold-comes setting backs rules batch (Crash after ∷ acts) e =
-    judged-comes (verdict setting.slots setting.mode rules batch) (foretells setting.slots setting.mode (set_after rules batch) [] acts) (any_refused setting backs (set_after rules batch) [] acts)
-    (foretold-comes setting backs (set_after rules batch) [] acts) e
+pub foretold-comes : (setting : Setting) (backs : List Bool) (rules : List Rule) (batch : List Change) (asked : Requested) (acts : List Act)
+    → foretells setting.slots setting.mode rules batch asked acts ≡ true → any_refused setting backs rules batch asked acts ≡ true
+foretold-comes setting backs rules batch asked [] e = e
+foretold-comes setting backs rules batch asked (Command change ∷ acts) e = foretold-comes setting backs rules (batch_with batch asked change) (asked_with asked change) acts e
+foretold-comes setting backs rules batch asked (Ask request ∷ acts) e = foretold-comes setting backs rules (batch_behind batch asked) (asked_behind batch asked request) acts e
+foretold-comes setting backs rules batch asked (All ∷ acts) e = foretold-comes setting backs rules [] (WholeSet []) acts e
+foretold-comes setting backs rules batch asked (Probe key ∷ acts) e = foretold-comes setting backs rules batch asked acts e
+foretold-comes setting backs rules batch asked (Packet key ∷ acts) e = foretold-comes setting backs rules batch asked acts e
+foretold-comes setting backs rules batch asked (Commit ∷ acts) e =
+    let next = set_after rules (settled_batch rules batch asked) in
+    judged-comes (settled_verdict setting.slots setting.mode rules batch asked) (foretells setting.slots setting.mode next [] Nothing acts) (any_refused setting backs next [] Nothing acts)
+    (foretold-comes setting backs next [] Nothing acts) e
+foretold-comes setting backs rules batch asked (Trial most ∷ acts) e =
+    let next = set_after rules (settled_batch rules batch asked) in
+    trial-comes (settled_batch rules batch asked) (settled_verdict setting.slots setting.mode rules batch asked) (foretells setting.slots setting.mode next [] Nothing acts)
+    (elim (is_back backs) [ true ↦ any_refused setting (drop 1 backs) rules [] Nothing acts | false ↦ any_refused setting (drop 1 backs) next [] Nothing acts ])
+    (λ none told. either-true (is_back backs) (any_refused setting (drop 1 backs) rules [] Nothing acts) (any_refused setting (drop 1 backs) next [] Nothing acts)
+    (foretold-comes setting (drop 1 backs) rules [] Nothing acts
+    (subst (λ old. foretells setting.slots setting.mode old [] Nothing acts ≡ true) (ap (set_after rules) none ∙ set-after-none rules) told))
+    (foretold-comes setting (drop 1 backs) next [] Nothing acts told)) e
+foretold-comes setting backs rules batch asked (Crash after ∷ acts) e =
+    let next = set_after rules (settled_batch rules batch asked) in
+    judged-comes (settled_verdict setting.slots setting.mode rules batch asked) (foretells setting.slots setting.mode next [] Nothing acts) (any_refused setting backs next [] Nothing acts)
+    (foretold-comes setting backs next [] Nothing acts) e
 
 -- without trials nothing else comes
-pub foretold-alone : (setting : Setting) (backs : List Bool) (rules : List Rule) (batch : List Change) (acts : List Act) → AllByRecursion IsNoTrial acts
-    → foretells setting.slots setting.mode rules batch acts ≡ any_refused setting backs rules batch acts
-foretold-alone setting backs rules batch [] none = refl
-foretold-alone setting backs rules batch (Command change ∷ acts) none = foretold-alone setting backs rules (batch ++ change ∷ []) acts none.1
-foretold-alone setting backs rules batch (Probe key ∷ acts) none = foretold-alone setting backs rules batch acts none.1
-foretold-alone setting backs rules batch (Packet key ∷ acts) none = foretold-alone setting backs rules batch acts none.1
-foretold-alone setting backs rules batch (Commit ∷ acts) none =
-    judged-same (verdict setting.slots setting.mode rules batch) (foretells setting.slots setting.mode (set_after rules batch) [] acts) (any_refused setting backs (set_after rules batch) [] acts)
-    (foretold-alone setting backs (set_after rules batch) [] acts none.1)
-foretold-alone setting backs rules batch (Trial most ∷ acts) none = absurd none.0
-foretold-alone setting backs rules batch (Crash after ∷ acts) none =
-    judged-same (verdict setting.slots setting.mode rules batch) (foretells setting.slots setting.mode (set_after rules batch) [] acts) (any_refused setting backs (set_after rules batch) [] acts)
-    (foretold-alone setting backs (set_after rules batch) [] acts none.1)
+pub foretold-alone : (setting : Setting) (backs : List Bool) (rules : List Rule) (batch : List Change) (asked : Requested) (acts : List Act) → AllByRecursion IsNoTrial acts
+    → foretells setting.slots setting.mode rules batch asked acts ≡ any_refused setting backs rules batch asked acts
+foretold-alone setting backs rules batch asked [] none = refl
+foretold-alone setting backs rules batch asked (Command change ∷ acts) none = foretold-alone setting backs rules (batch_with batch asked change) (asked_with asked change) acts none.1
+foretold-alone setting backs rules batch asked (Ask request ∷ acts) none = foretold-alone setting backs rules (batch_behind batch asked) (asked_behind batch asked request) acts none.1
+foretold-alone setting backs rules batch asked (All ∷ acts) none = foretold-alone setting backs rules [] (WholeSet []) acts none.1
+foretold-alone setting backs rules batch asked (Probe key ∷ acts) none = foretold-alone setting backs rules batch asked acts none.1
+foretold-alone setting backs rules batch asked (Packet key ∷ acts) none = foretold-alone setting backs rules batch asked acts none.1
+foretold-alone setting backs rules batch asked (Commit ∷ acts) none =
+    let next = set_after rules (settled_batch rules batch asked) in
+    judged-same (settled_verdict setting.slots setting.mode rules batch asked) (foretells setting.slots setting.mode next [] Nothing acts) (any_refused setting backs next [] Nothing acts)
+    (foretold-alone setting backs next [] Nothing acts none.1)
+foretold-alone setting backs rules batch asked (Trial most ∷ acts) none = absurd none.0
+foretold-alone setting backs rules batch asked (Crash after ∷ acts) none =
+    let next = set_after rules (settled_batch rules batch asked) in
+    judged-same (settled_verdict setting.slots setting.mode rules batch asked) (foretells setting.slots setting.mode next [] Nothing acts) (any_refused setting backs next [] Nothing acts)
+    (foretold-alone setting backs next [] Nothing acts none.1)
 
 -- ---- the status that is decided
 
@@ -113,15 +127,15 @@ taken-decided (FaultAt line text) refused whole is = let bad : FaultAt line text
 
 -- a line at fault is found by each run
 pub wrong-by-fault : (setting : Setting) (backs : List Bool) (script : Script) → script.last ≢ Whole → decided setting backs script ≢ Done
-wrong-by-fault setting backs script fault = fault-decided script.last (any_refused setting backs [] [] (acts_of script)) fault
+wrong-by-fault setting backs script fault = fault-decided script.last (any_refused setting backs [] [] Nothing (acts_of script)) fault
 
 -- and so is a refusal that is foretold
-pub wrong-by-refusal : (setting : Setting) (backs : List Bool) (script : Script) → foretells setting.slots setting.mode [] [] (acts_of script) ≡ true → decided setting backs script ≢ Done
+pub wrong-by-refusal : (setting : Setting) (backs : List Bool) (script : Script) → foretells setting.slots setting.mode [] [] Nothing (acts_of script) ≡ true → decided setting backs script ≢ Done
 wrong-by-refusal setting backs script told =
-    refused-decided script.last (any_refused setting backs [] [] (acts_of script)) (foretold-comes setting backs [] [] (acts_of script) told)
+    refused-decided script.last (any_refused setting backs [] [] Nothing (acts_of script)) (foretold-comes setting backs [] [] Nothing (acts_of script) told)
 
 -- a script without either, and without trials, is carried out whole
-pub right-decided : (setting : Setting) (backs : List Bool) (script : Script) → script.last ≡ Whole → foretells setting.slots setting.mode [] [] (acts_of script) ≡ false
+pub right-decided : (setting : Setting) (backs : List Bool) (script : Script) → script.last ≡ Whole → foretells setting.slots setting.mode [] [] Nothing (acts_of script) ≡ false
     → AllByRecursion IsNoTrial (acts_of script) → decided setting backs script ≡ Done
 right-decided setting backs script whole none trials =
-    taken-decided script.last (any_refused setting backs [] [] (acts_of script)) whole (sym (foretold-alone setting backs [] [] (acts_of script) trials) ∙ none)
+    taken-decided script.last (any_refused setting backs [] [] Nothing (acts_of script)) whole (sym (foretold-alone setting backs [] [] Nothing (acts_of script) trials) ∙ none)

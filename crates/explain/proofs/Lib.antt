@@ -1,4 +1,5 @@
 pub mod Foretold
+pub mod Settled
 pub mod Steps
 pub mod Rounds
 pub mod Taken

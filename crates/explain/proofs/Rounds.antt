@@ -1,5 +1,5 @@
 -- How an explanation ends, and what a round comes to.
-use Rattle.std.proofs.Common.{◌≡◌, ◌≢◌, ◌⊎◌, inl, inr, ℕ, Bool, true, false, ◌||◌, Option, Some, None, Result, Err, List, [], ◌++◌, length, refl, ap, sym, ◌∙◌, subst, append-nil}
+use Rattle.std.proofs.Common.{◌≡◌, ◌≢◌, ◌⊎◌, inl, inr, ℕ, Bool, true, false, ◌||◌, Option, Some, None, Result, Err, List, [], ◌++◌, refl, ap, sym, ◌∙◌, subst, append-nil}
 use Rattle.std.specs.Prelude.{if◌then◌else◌}
 use Rattle.script_lines.specs.declared.Line.{Line}
 use Rattle.script_lines.specs.declared.LineFault.{LineFault}
@@ -13,6 +13,8 @@ use Rattle.script_runs.specs.declared.Status.TheVariants as status
 use Rattle.script_runs.specs.Script.{NumberedAct, Whole, FaultAt, acts_of, byte_end}
 use Rattle.script_runs.specs.Rounds.{IsGoing, IsReadSoFar, acts_only}
 use Rattle.script_runs.proofs.NextLines.{bytes-end, bytes-fault}
+use Rattle.settled_changes.specs.declared.requested.Requested.TheVariants.{Nothing}
+use Rattle.settled_changes.specs.Requested.{changes_in}
 use Rattle.replay.specs.declared.Act.{Act}
 use Rattle.replay.specs.Script.{Script}
 use Rattle.explain.specs.declared.explainer.Wanted.{Wanted}
@@ -40,8 +42,8 @@ IsByteFault fault = (line : ℕ) × (text : List ℕ) × (byte_end (Faulty fault
 byte-faultless : (by : Foretold) (bytes : List ℕ) (old : HeldBytes) (left : List ℕ) (now : Explained) (fault : LineFault) → IsByteFault fault → IsFaultless by bytes old left now
     → Again old.over (Err fault) → (old.over ≡ over.Going → lines_held old left ≡ ends_at (Faulty fault)) → IsWrongScript now.wanted bytes
 byte-faultless by bytes old left now fault (line, text, ends) s again held =
-    let going = still-going old.over (kind_for now.wanted) bytes old left s.acts (length now.batch, now.probes) (Err fault) (λ e. cc) again s.read in
-    let is = bytes-fault (kind_for now.wanted) bytes old left s.acts (length now.batch, now.probes) fault going.1 (held going.0) in
+    let going = still-going old.over (kind_for now.wanted) bytes old left s.acts (changes_in now.batch now.asked, now.probes) (Err fault) (λ e. cc) again s.read in
+    let is = bytes-fault (kind_for now.wanted) bytes old left s.acts (changes_in now.batch now.asked, now.probes) fault going.1 (held going.0) in
     fault-wrong bytes now
     (λ whole.
     let bad : FaultAt line text ≡ Whole = sym ends ∙ sym (ap (λ (s : Script). s.last) is) ∙ whole in
@@ -60,11 +62,11 @@ or-nothing true = refl
 or-nothing false = refl
 
 -- all of the script is read, and all of the input
-all-read : (o : Over) (bytes : List ℕ) (old : HeldBytes) (left now_left : List ℕ) (now : Explained) (acts : List (NumberedAct Act)) → IsReadSoFar o (kind_for now.wanted) bytes old left acts (length now.batch, now.probes)
+all-read : (o : Over) (bytes : List ℕ) (old : HeldBytes) (left now_left : List ℕ) (now : Explained) (acts : List (NumberedAct Act)) → IsReadSoFar o (kind_for now.wanted) bytes old left acts (changes_in now.batch now.asked, now.probes)
     → (o ≡ over.Going → (old.pending ++ left ≡ []) × (now_left ≡ [])) → (o ≢ over.Going → left ≡ now_left)
     → (script_for now.wanted bytes ≡ record { acts = acts; last = Whole }) × (now_left ≡ [])
 all-read over.Going bytes old left now_left now acts going hands same = (
-  bytes-end (kind_for now.wanted) bytes old left acts (length now.batch, now.probes) going (hands refl).0,
+  bytes-end (kind_for now.wanted) bytes old left acts (changes_in now.batch now.asked, now.probes) going (hands refl).0,
   (hands refl).1,
 )
 all-read over.Ended bytes old left now_left now acts read hands same = (read.0, sym (same (λ e. let bad : over.Ended ≡ over.Going = e in cc)) ∙ read.1)
@@ -142,7 +144,7 @@ abbrev pub fresh : HeldBytes
 fresh = record { pending = []; before = 0; number = 1; over = over.Going }
 
 abbrev pub begun : Wanted → Explained
-begun wanted = record { wanted = wanted; rules = []; batch = []; probes = 0; foretold = foretold.Known; wrong = false }
+begun wanted = record { wanted = wanted; rules = []; batch = []; asked = Nothing; probes = 0; foretold = foretold.Known; wrong = false }
 
 pub stands-first : (wanted : Wanted) (held : HeldBytes) (now : Explained) (bytes left : List ℕ) → held ≡ fresh → now ≡ begun wanted → MayGive bytes [] left → IsStanding bytes held left now
 stands-first wanted held now bytes left new is may =

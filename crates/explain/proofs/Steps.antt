@@ -1,8 +1,14 @@
 -- A line more of a script that is explained.
-use Rattle.std.proofs.Common.{◌≡◌, ◌≢◌, ℕ, Bool, true, false, ◌||◌, Option, Some, None, Result, Ok, Err, List, [], ◌∷◌, ◌++◌, length, refl, ap, sym, ◌∙◌, subst, append_assoc, length-append}
+use Rattle.std.proofs.Common.{◌≡◌, ◌≢◌, ℕ, ◌+◌, Bool, true, false, ◌||◌, Option, Some, None, Result, Ok, Err, List, [], ◌∷◌, ◌++◌, map, refl, ap, sym, ◌∙◌, subst, append_assoc, length-append}
+use Rattle.std.proofs.lemmas.List.{length-map}
 use Rattle.rule_store.specs.declared.Command.{Command as Change}
 use Rattle.rule_store.specs.Batch.{set_after}
-use Rattle.rule_store.specs.Verdict.{Verdict, Accepted, Unsound, OutOfBits, OutOfSlots, verdict}
+use Rattle.rule_store.specs.Verdict.{Verdict, Accepted, Unsound, OutOfBits, OutOfSlots}
+use Rattle.settled_changes.specs.declared.Request.{Request}
+use Rattle.settled_changes.specs.declared.Request.TheVariants.{Strict}
+use Rattle.settled_changes.specs.declared.requested.Requested.{Requested}
+use Rattle.settled_changes.specs.declared.requested.Requested.TheVariants.{Nothing, Changes, Whole as WholeSet}
+use Rattle.settled_changes.specs.Requested.{asked_behind, asked_with, batch_behind, batch_with, changes_in}
 use Rattle.script_lines.specs.declared.Line.{Line}
 use Rattle.script_lines.specs.declared.LineFault.{LineFault}
 use Rattle.script_lines.specs.declared.Over.{Over}
@@ -13,15 +19,15 @@ use Rattle.script_runs.specs.Script.{ScriptKind, NumberedAct, Whole, FaultAt, st
 use Rattle.script_runs.specs.Rounds.{IsGoing, IsReadSoFar, acts_next, acts_only, onto_all}
 use Rattle.script_runs.proofs.NextLines.{HandsOne, line-none, line-fault, line-full, line-act, next-line, line-here, onto-more, only-more}
 use Rattle.replay.specs.declared.Act.{Act}
-use Rattle.replay.specs.declared.Act.TheVariants.{Command, Probe, Packet, Commit, Trial, Crash}
+use Rattle.replay.specs.declared.Act.TheVariants.{Command, Ask, All, Probe, Packet, Commit, Trial, Crash}
 use Rattle.replay.specs.Script.{Script, limit_fault, pending_after, probes_after, script_kind}
 use Rattle.tcam_cli.specs.Readings.{reading_by}
 use Rattle.explain.specs.declared.explainer.Wanted.{Wanted}
 use Rattle.explain.specs.declared.explainer.Foretold.{Foretold}
 use Rattle.explain.specs.declared.explainer.Foretold.TheVariants as foretold
-use Rattle.explain.specs.Explained.{foretells, is_refusal_foretold, judged_by, script_for, setting_for}
+use Rattle.explain.specs.Explained.{foretells, is_refusal_foretold, judged_by, script_for, setting_for, tried_by}
 use Rattle.explain.specs.Rounds.{Explained, ForetellsBy, HasFault, IsFaultless, IsStandingBy, IsStanding}
-use Rattle.explain.specs.Steps.{behind_act, behind_room, committed, faulted, judged, behind_line_by, behind_line, refused, tried, verdict_in}
+use Rattle.explain.specs.Steps.{behind_act, behind_room, changes_of, committed, faulted, judged, behind_line_by, behind_line, refused, tried, verdict_in}
 
 -- ---- words
 
@@ -31,7 +37,7 @@ kind_for wanted = script_kind (reading_by (setting_for wanted))
 
 -- what is counted of the acts so far
 abbrev counts : Explained → ℕ × ℕ
-counts now = (length now.batch, now.probes)
+counts now = (changes_in now.batch now.asked, now.probes)
 
 or-true : (b : Bool) → (b || true) ≡ true
 or-true true = refl
@@ -62,7 +68,7 @@ module _ (bytes : List ℕ) (old : HeldBytes) (left : List ℕ) (line : Numbered
       let (rest, e) = line-here (kind_for now.wanted) bytes old left line new after acts (counts now) going hands in
       stopped rest text (e ∙ ap (onto_all acts) (line-fault (kind_for now.wanted) (counts now) line rest text bad))
 
-  pub full-here : (act : Act) (text : List ℕ) → reading_by (setting_for now.wanted) line.text ≡ Ok (Some act) → limit_fault act (length now.batch) now.probes ≡ Some text
+  pub full-here : (act : Act) (text : List ℕ) → reading_by (setting_for now.wanted) line.text ≡ Ok (Some act) → limit_fault act (changes_in now.batch now.asked) now.probes ≡ Some text
       → (script_for now.wanted bytes).last ≢ Whole
   full-here act text is full =
       let (rest, e) = line-here (kind_for now.wanted) bytes old left line new after acts (counts now) going hands in
@@ -75,11 +81,11 @@ module _ (bytes : List ℕ) (old : HeldBytes) (left : List ℕ) (line : Numbered
       (λ rest. ap (onto_all acts) (line-none (kind_for now.wanted) (counts now) line rest is))
 
   -- an act for which there is room
-  pub act-here : (act : Act) → reading_by (setting_for now.wanted) line.text ≡ Ok (Some act) → limit_fault act (length now.batch) now.probes ≡ None
-      → IsReadSoFar new.over (kind_for now.wanted) bytes new after (acts ++ record { line = line.number; act = act } ∷ []) (pending_after act (length now.batch), probes_after act now.probes)
+  pub act-here : (act : Act) → reading_by (setting_for now.wanted) line.text ≡ Ok (Some act) → limit_fault act (changes_in now.batch now.asked) now.probes ≡ None
+      → IsReadSoFar new.over (kind_for now.wanted) bytes new after (acts ++ record { line = line.number; act = act } ∷ []) (pending_after act (changes_in now.batch now.asked), probes_after act now.probes)
   act-here act is room =
       let kind = kind_for now.wanted in
-      let next : ℕ × ℕ = (pending_after act (length now.batch), probes_after act now.probes) in
+      let next : ℕ × ℕ = (pending_after act (changes_in now.batch now.asked), probes_after act now.probes) in
       next-line kind bytes old left line new after acts (acts ++ record { line = line.number; act = act } ∷ []) (counts now) next going hands
       (λ rest. ap (onto_all acts) (line-act kind (counts now) line rest act is room) ∙ onto-more acts line.number act (acts_next kind next rest))
 
@@ -103,12 +109,25 @@ judged-counts foretold.Known now after is = is
 judged-counts (foretold.BehindTrial line) now after is = refl
 judged-counts (foretold.BehindFault line) now after is = refl
 
-carried-counts : (by : Foretold) (number : ℕ) (act : Act) (now : Explained) → (pending_after act (length now.batch), probes_after act now.probes) ≡ counts (behind_room by number act now)
-carried-counts by number (Command change) now = ap (λ n. (n, now.probes)) (sym (length-append now.batch (change ∷ [])))
+-- a change more
+pub more_with : (batch : List Change) (asked : Requested) (change : Change) → changes_in (batch_with batch asked change) (asked_with asked change) ≡ changes_in batch asked + 1
+more_with batch Nothing change = length-append batch (change ∷ [])
+more_with batch (Changes requests) change = length-append requests (Strict change ∷ [])
+more_with batch (WholeSet requests) change = length-append requests (Strict change ∷ [])
+
+pub more_behind : (batch : List Change) (asked : Requested) (request : Request) → changes_in (batch_behind batch asked) (asked_behind batch asked request) ≡ changes_in batch asked + 1
+more_behind batch Nothing request = length-append (map Strict batch) (request ∷ []) ∙ ap (λ n. n + 1) (length-map batch Strict)
+more_behind batch (Changes requests) request = length-append requests (request ∷ [])
+more_behind batch (WholeSet requests) request = length-append requests (request ∷ [])
+
+carried-counts : (by : Foretold) (number : ℕ) (act : Act) (now : Explained) → (pending_after act (changes_in now.batch now.asked), probes_after act now.probes) ≡ counts (behind_room by number act now)
+carried-counts by number (Command change) now = ap (λ n. (n, now.probes)) (sym (more_with now.batch now.asked change))
+carried-counts by number (Ask request) now = ap (λ n. (n, now.probes)) (sym (more_behind now.batch now.asked request))
+carried-counts by number All now = refl
 carried-counts by number (Probe key) now = refl
 carried-counts by number (Packet key) now = refl
 carried-counts by number Commit now = judged-counts by now (committed (verdict_in now) now) (committed-counts (verdict_in now) now)
-carried-counts by number (Trial most) now = judged-counts by now (tried number now.batch (verdict_in now) now) (tried-counts number now.batch (verdict_in now) now)
+carried-counts by number (Trial most) now = judged-counts by now (tried number (changes_of now) (verdict_in now) now) (tried-counts number (changes_of now) (verdict_in now) now)
 carried-counts by number (Crash after) now = judged-counts by now (committed (verdict_in now) now) (committed-counts (verdict_in now) now)
 
 -- what is wanted stays
@@ -132,10 +151,12 @@ judged-wanted (foretold.BehindFault line) now after is = refl
 
 pub carried-wanted : (by : Foretold) (number : ℕ) (act : Act) (now : Explained) → (behind_room by number act now).wanted ≡ now.wanted
 carried-wanted by number (Command change) now = refl
+carried-wanted by number (Ask request) now = refl
+carried-wanted by number All now = refl
 carried-wanted by number (Probe key) now = refl
 carried-wanted by number (Packet key) now = refl
 carried-wanted by number Commit now = judged-wanted by now (committed (verdict_in now) now) (committed-wanted (verdict_in now) now)
-carried-wanted by number (Trial most) now = judged-wanted by now (tried number now.batch (verdict_in now) now) (tried-wanted number now.batch (verdict_in now) now)
+carried-wanted by number (Trial most) now = judged-wanted by now (tried number (changes_of now) (verdict_in now) now) (tried-wanted number (changes_of now) (verdict_in now) now)
 carried-wanted by number (Crash after) now = judged-wanted by now (committed (verdict_in now) now) (committed-wanted (verdict_in now) now)
 
 acted-wanted : (by : Foretold) (number : ℕ) (act : Act) (limit : Option (List ℕ)) (now : Explained) → (behind_act by number act limit now).wanted ≡ now.wanted
@@ -145,8 +166,8 @@ acted-wanted by number act None now = carried-wanted by number act now
 next-by-wanted : (by : Foretold) (number : ℕ) (read : Result (Option Act) (List ℕ)) (now : Explained) → (behind_line_by by number read now).wanted ≡ now.wanted
 next-by-wanted by number (Err text) now = refl
 next-by-wanted by number (Ok None) now = refl
-next-by-wanted foretold.Known number (Ok (Some act)) now = acted-wanted foretold.Known number act (limit_fault act (length now.batch) now.probes) now
-next-by-wanted (foretold.BehindTrial line) number (Ok (Some act)) now = acted-wanted (foretold.BehindTrial line) number act (limit_fault act (length now.batch) now.probes) now
+next-by-wanted foretold.Known number (Ok (Some act)) now = acted-wanted foretold.Known number act (limit_fault act (changes_in now.batch now.asked) now.probes) now
+next-by-wanted (foretold.BehindTrial line) number (Ok (Some act)) now = acted-wanted (foretold.BehindTrial line) number act (limit_fault act (changes_in now.batch now.asked) now.probes) now
 next-by-wanted (foretold.BehindFault line) number (Ok (Some act)) now = refl
 
 pub next-wanted : (number : ℕ) (read : Result (Option Act) (List ℕ)) (now : Explained) → (behind_line number read now).wanted ≡ now.wanted
@@ -159,10 +180,10 @@ shift-acts : (acts : List (NumberedAct Act)) (number : ℕ) (act : Act) (more : 
 shift-acts acts number act more = ap (λ a. a ++ more) (sym (only-more acts number act)) ∙ append_assoc (acts_only acts) (act ∷ []) more
 
 abbrev foretold-from : Explained → List Act → Bool
-foretold-from now more = now.wrong || foretells now.wanted.slots now.wanted.mode now.rules now.batch more
+foretold-from now more = now.wrong || foretells now.wanted.slots now.wanted.mode now.rules now.batch now.asked more
 
 committed-foretells : (v : Verdict) (now : Explained) (more : List Act)
-    → (now.wrong || judged_by v (foretells now.wanted.slots now.wanted.mode (set_after now.rules now.batch) [] more)) ≡ foretold-from (committed v now) more
+    → (now.wrong || judged_by v (foretells now.wanted.slots now.wanted.mode (set_after now.rules (changes_of now)) [] Nothing more)) ≡ foretold-from (committed v now) more
 committed-foretells Accepted now more = refl
 committed-foretells (Unsound fault) now more = or-true now.wrong
 committed-foretells (OutOfBits field needed free) now more = or-true now.wrong
@@ -193,71 +214,55 @@ module _ (bytes : List ℕ) (new : HeldBytes) (after : List ℕ) where
   fault-stands : (line : ℕ) (now : Explained) → now.foretold ≡ foretold.BehindFault line → HasFault bytes now → IsStanding bytes new after now
   fault-stands line now is at = subst (λ f. IsStandingBy f bytes new after now) (sym is) at
 
-  -- a trial over a known set, by its verdict
-  trial-none : (v : Verdict) (now : Explained) (acts : List (NumberedAct Act)) → now.foretold ≡ foretold.Known → now.batch ≡ [] → IsRead (committed v now) acts
-      → ((more : List Act) → is_refusal_foretold now.wanted (acts_only acts ++ more) ≡ (now.wrong || judged_by v (foretells now.wanted.slots now.wanted.mode (set_after now.rules []) [] more)))
+  -- a commit over a known set, by its verdict
+  known-committed : (v : Verdict) (now : Explained) (acts : List (NumberedAct Act)) → now.foretold ≡ foretold.Known → IsRead (committed v now) acts
+      → ((more : List Act) → is_refusal_foretold now.wanted (acts_only acts ++ more)
+      ≡ (now.wrong || judged_by v (foretells now.wanted.slots now.wanted.mode (set_after now.rules (changes_of now)) [] Nothing more)))
       → IsStanding bytes new after (committed v now)
-  trial-none v now acts is empty read tells =
+  known-committed v now acts is read tells =
       let next = committed v now in
       known-stands next acts (committed-foretold v now ∙ is) read
       (λ more.
       subst (λ (w : Wanted). is_refusal_foretold w (acts_only acts ++ more) ≡ foretold-from next more) (sym (committed-wanted v now))
-      (tells more
-      ∙ subst (λ (b : List Change). (now.wrong || judged_by v (foretells now.wanted.slots now.wanted.mode (set_after now.rules b) [] more)) ≡ foretold-from next more) empty (committed-foretells v now more)))
+      (tells more ∙ committed-foretells v now more))
 
-  trial-some : (number : ℕ) (change : Change) (changes : List Change) (v : Verdict) (now : Explained) (acts : List (NumberedAct Act)) → now.foretold ≡ foretold.Known
-      → IsRead (tried number (change ∷ changes) v now) acts
-      → ((more : List Act) → is_refusal_foretold now.wanted (acts_only acts ++ more) ≡ (now.wrong || judged_by v false))
-      → IsStanding bytes new after (tried number (change ∷ changes) v now)
-  trial-some number change changes Accepted now acts is read tells =
-      trial-stands number (record now { batch = []; foretold = foretold.BehindTrial number }) acts refl read (λ more. tells more ∙ or-false now.wrong)
-  trial-some number change changes (Unsound fault) now acts is read tells = known-stands (refused now) acts is read (λ more. tells more ∙ or-true now.wrong)
-  trial-some number change changes (OutOfBits field needed free) now acts is read tells = known-stands (refused now) acts is read (λ more. tells more ∙ or-true now.wrong)
-  trial-some number change changes (OutOfSlots needed free) now acts is read tells = known-stands (refused now) acts is read (λ more. tells more ∙ or-true now.wrong)
-
-  trial-tried : (number most : ℕ) (batch : List Change) (now : Explained) (acts : List (NumberedAct Act)) → now.foretold ≡ foretold.Known → now.batch ≡ batch
-      → IsRead (tried number batch (verdict_in now) now) acts
-      → ((more : List Act) → is_refusal_foretold now.wanted (acts_only acts ++ more) ≡ (now.wrong || foretells now.wanted.slots now.wanted.mode now.rules batch (Trial most ∷ more)))
-      → IsStanding bytes new after (tried number batch (verdict_in now) now)
-  trial-tried number most [] now acts is same read tells =
-      let by : verdict now.wanted.slots now.wanted.mode now.rules [] ≡ verdict_in now = ap (verdict now.wanted.slots now.wanted.mode now.rules) (sym same) in
-      trial-none (verdict_in now) now acts is same read
-      (λ more. tells more ∙ ap (λ v. now.wrong || judged_by v (foretells now.wanted.slots now.wanted.mode (set_after now.rules []) [] more)) by)
-  trial-tried number most (change ∷ changes) now acts is same read tells =
-      let by : verdict now.wanted.slots now.wanted.mode now.rules (change ∷ changes) ≡ verdict_in now = ap (verdict now.wanted.slots now.wanted.mode now.rules) (sym same) in
-      trial-some number change changes (verdict_in now) now acts is read (λ more. tells more ∙ ap (λ v. now.wrong || judged_by v false) by)
+  -- and a trial, by its changes too
+  known-tried : (number : ℕ) (changes : List Change) (v : Verdict) (now : Explained) (acts : List (NumberedAct Act)) → now.foretold ≡ foretold.Known → IsRead (tried number changes v now) acts
+      → ((more : List Act) → is_refusal_foretold now.wanted (acts_only acts ++ more)
+      ≡ (now.wrong || tried_by changes v (foretells now.wanted.slots now.wanted.mode (set_after now.rules (changes_of now)) [] Nothing more)))
+      → IsStanding bytes new after (tried number changes v now)
+  known-tried number [] v now acts is read tells = known-committed v now acts is read tells
+  known-tried number (change ∷ changes) Accepted now acts is read tells =
+      trial-stands number (record now { batch = []; asked = Nothing; foretold = foretold.BehindTrial number }) acts refl read (λ more. tells more ∙ or-false now.wrong)
+  known-tried number (change ∷ changes) (Unsound fault) now acts is read tells = known-stands (refused now) acts is read (λ more. tells more ∙ or-true now.wrong)
+  known-tried number (change ∷ changes) (OutOfBits field needed free) now acts is read tells = known-stands (refused now) acts is read (λ more. tells more ∙ or-true now.wrong)
+  known-tried number (change ∷ changes) (OutOfSlots needed free) now acts is read tells = known-stands (refused now) acts is read (λ more. tells more ∙ or-true now.wrong)
 
   -- an act that is carried out over a known set
   known-carried : (number : ℕ) (act : Act) (now : Explained) (acts : List (NumberedAct Act)) → now.foretold ≡ foretold.Known → IsRead (behind_room foretold.Known number act now) acts
       → ((more : List Act) → is_refusal_foretold now.wanted (acts_only acts ++ more) ≡ foretold-from now (act ∷ more))
       → IsStanding bytes new after (behind_room foretold.Known number act now)
   known-carried number (Command change) now acts is read tells = known-stands (behind_room foretold.Known number (Command change) now) acts is read tells
+  known-carried number (Ask request) now acts is read tells = known-stands (behind_room foretold.Known number (Ask request) now) acts is read tells
+  known-carried number All now acts is read tells = known-stands (behind_room foretold.Known number All now) acts is read tells
   known-carried number (Probe key) now acts is read tells = known-stands (behind_room foretold.Known number (Probe key) now) acts is read tells
   known-carried number (Packet key) now acts is read tells = known-stands now acts is read tells
-  known-carried number Commit now acts is read tells =
-      let next = committed (verdict_in now) now in
-      known-stands next acts (committed-foretold (verdict_in now) now ∙ is) read
-      (λ more.
-      subst (λ (w : Wanted). is_refusal_foretold w (acts_only acts ++ more) ≡ foretold-from next more) (sym (committed-wanted (verdict_in now) now))
-      (tells more ∙ committed-foretells (verdict_in now) now more))
-  known-carried number (Trial most) now acts is read tells = trial-tried number most now.batch now acts is refl read tells
-  known-carried number (Crash limit) now acts is read tells =
-      let next = committed (verdict_in now) now in
-      known-stands next acts (committed-foretold (verdict_in now) now ∙ is) read
-      (λ more.
-      subst (λ (w : Wanted). is_refusal_foretold w (acts_only acts ++ more) ≡ foretold-from next more) (sym (committed-wanted (verdict_in now) now))
-      (tells more ∙ committed-foretells (verdict_in now) now more))
+  known-carried number Commit now acts is read tells = known-committed (verdict_in now) now acts is read tells
+  known-carried number (Trial most) now acts is read tells = known-tried number (changes_of now) (verdict_in now) now acts is read tells
+  known-carried number (Crash limit) now acts is read tells = known-committed (verdict_in now) now acts is read tells
 
   -- and behind a trial
   trial-carried : (line number : ℕ) (act : Act) (now : Explained) (acts : List (NumberedAct Act)) → now.foretold ≡ foretold.BehindTrial line → IsRead (behind_room (foretold.BehindTrial line) number act now) acts
       → ((more : List Act) → is_refusal_foretold now.wanted (acts_only acts ++ more) ≡ now.wrong)
       → IsStanding bytes new after (behind_room (foretold.BehindTrial line) number act now)
   trial-carried line number (Command change) now acts is read tells = trial-stands line (behind_room (foretold.BehindTrial line) number (Command change) now) acts is read tells
+  trial-carried line number (Ask request) now acts is read tells = trial-stands line (behind_room (foretold.BehindTrial line) number (Ask request) now) acts is read tells
+  trial-carried line number All now acts is read tells = trial-stands line (behind_room (foretold.BehindTrial line) number All now) acts is read tells
   trial-carried line number (Probe key) now acts is read tells = trial-stands line (behind_room (foretold.BehindTrial line) number (Probe key) now) acts is read tells
   trial-carried line number (Packet key) now acts is read tells = trial-stands line now acts is read tells
-  trial-carried line number Commit now acts is read tells = trial-stands line (record now { batch = [] }) acts is read tells
-  trial-carried line number (Trial most) now acts is read tells = trial-stands line (record now { batch = [] }) acts is read tells
-  trial-carried line number (Crash limit) now acts is read tells = trial-stands line (record now { batch = [] }) acts is read tells
+  trial-carried line number Commit now acts is read tells = trial-stands line (record now { batch = []; asked = Nothing }) acts is read tells
+  trial-carried line number (Trial most) now acts is read tells = trial-stands line (record now { batch = []; asked = Nothing }) acts is read tells
+  trial-carried line number (Crash limit) now acts is read tells = trial-stands line (record now { batch = []; asked = Nothing }) acts is read tells
 
 -- ---- one line more
 
@@ -265,7 +270,7 @@ module _ (bytes : List ℕ) (old : HeldBytes) (left : List ℕ) (line : Numbered
     (hands : old.over ≡ over.Going → HandsOne old left line new after) where
   -- what is read behind an act
   read-behind : (by : Foretold) (act : Act) (acts : List (NumberedAct Act)) → IsGoing (kind_for now.wanted) bytes old left acts (counts now) → HandsOne old left line new after
-      → reading_by (setting_for now.wanted) line.text ≡ Ok (Some act) → limit_fault act (length now.batch) now.probes ≡ None
+      → reading_by (setting_for now.wanted) line.text ≡ Ok (Some act) → limit_fault act (changes_in now.batch now.asked) now.probes ≡ None
       → IsReadSoFar new.over (kind_for (behind_room by line.number act now).wanted) bytes new after (acts ++ record { line = line.number; act = act } ∷ []) (counts (behind_room by line.number act now))
   read-behind by act acts going one is room =
       let next = acts ++ record { line = line.number; act = act } ∷ [] in
@@ -274,7 +279,7 @@ module _ (bytes : List ℕ) (old : HeldBytes) (left : List ℕ) (line : Numbered
       (act-here bytes old left line new after now acts going one act is room))
 
   known-acted : (act : Act) (limit : Option (List ℕ)) → now.foretold ≡ foretold.Known → (s : IsFaultless foretold.Known bytes old left now) → IsGoing (kind_for now.wanted) bytes old left s.acts (counts now)
-      → HandsOne old left line new after → reading_by (setting_for now.wanted) line.text ≡ Ok (Some act) → limit_fault act (length now.batch) now.probes ≡ limit
+      → HandsOne old left line new after → reading_by (setting_for now.wanted) line.text ≡ Ok (Some act) → limit_fault act (changes_in now.batch now.asked) now.probes ≡ limit
       → IsStanding bytes new after (behind_act foretold.Known line.number act limit now)
   known-acted act (Some text) is s going one read full =
       let at : HasFault bytes (faulted line.number foretold.Known now) = record { wrong = refl; fault = full-here bytes old left line new after now s.acts going one act text read full } in
@@ -285,7 +290,7 @@ module _ (bytes : List ℕ) (old : HeldBytes) (left : List ℕ) (line : Numbered
 
   trial-acted : (at_line : ℕ) (act : Act) (limit : Option (List ℕ)) → now.foretold ≡ foretold.BehindTrial at_line → (s : IsFaultless (foretold.BehindTrial at_line) bytes old left now)
       → IsGoing (kind_for now.wanted) bytes old left s.acts (counts now)
-      → HandsOne old left line new after → reading_by (setting_for now.wanted) line.text ≡ Ok (Some act) → limit_fault act (length now.batch) now.probes ≡ limit
+      → HandsOne old left line new after → reading_by (setting_for now.wanted) line.text ≡ Ok (Some act) → limit_fault act (changes_in now.batch now.asked) now.probes ≡ limit
       → IsStanding bytes new after (behind_act (foretold.BehindTrial at_line) line.number act limit now)
   trial-acted at_line act (Some text) is s going one read full =
       let at : HasFault bytes (faulted line.number (foretold.BehindTrial at_line) now) = record { wrong = refl; fault = full-here bytes old left line new after now s.acts going one act text read full } in
@@ -306,7 +311,7 @@ module _ (bytes : List ℕ) (old : HeldBytes) (left : List ℕ) (line : Numbered
       known-stands bytes new after now s.acts is (none-here bytes old left line new after now s.acts going.1 (hands going.0) read) s.tells
   stands-by foretold.Known found (Ok (Some act)) is s again read =
       let going = still-going old.over (kind_for now.wanted) bytes old left s.acts (counts now) (Ok (Some found)) (λ e. cc) again s.read in
-      known-acted act (limit_fault act (length now.batch) now.probes) is s going.1 (hands going.0) read refl
+      known-acted act (limit_fault act (changes_in now.batch now.asked) now.probes) is s going.1 (hands going.0) read refl
   stands-by (foretold.BehindTrial at_line) found (Err text) is s again read =
       let going = still-going old.over (kind_for now.wanted) bytes old left s.acts (counts now) (Ok (Some found)) (λ e. cc) again s.read in
       let at : HasFault bytes (faulted line.number (foretold.BehindTrial at_line) now) = record { wrong = refl; fault = fault-here bytes old left line new after now s.acts going.1 (hands going.0) text read } in
@@ -316,7 +321,7 @@ module _ (bytes : List ℕ) (old : HeldBytes) (left : List ℕ) (line : Numbered
       trial-stands bytes new after at_line now s.acts is (none-here bytes old left line new after now s.acts going.1 (hands going.0) read) s.tells
   stands-by (foretold.BehindTrial at_line) found (Ok (Some act)) is s again read =
       let going = still-going old.over (kind_for now.wanted) bytes old left s.acts (counts now) (Ok (Some found)) (λ e. cc) again s.read in
-      trial-acted at_line act (limit_fault act (length now.batch) now.probes) is s going.1 (hands going.0) read refl
+      trial-acted at_line act (limit_fault act (changes_in now.batch now.asked) now.probes) is s going.1 (hands going.0) read refl
   stands-by (foretold.BehindFault at_line) found (Err text) is s again read =
       let at : HasFault bytes (faulted line.number (foretold.BehindFault at_line) now) = record { wrong = refl; fault = s.fault } in
       at

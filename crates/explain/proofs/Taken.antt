@@ -8,9 +8,10 @@ use Rattle.rule_store.specs.Batch.{batch_fault, set_after}
 use Rattle.rule_store.specs.Verdict.{Verdict, Accepted, Unsound, OutOfBits, OutOfSlots, room_verdict, verdict, verdict_by}
 use Rattle.readback.specs.declared.Rejection.{Rejection}
 use Rattle.readback.specs.Judged.{judgement}
+use Rattle.settled_changes.specs.declared.requested.Requested.TheVariants.{Nothing}
 use Rattle.explain.specs.declared.explainer.Foretold.TheVariants as foretold
 use Rattle.explain.specs.Rounds.{Explained}
-use Rattle.explain.specs.Steps.{committed, refused, tried}
+use Rattle.explain.specs.Steps.{changes_of, committed, refused, tried}
 
 -- an accepted batch is sound
 sound_by : (fault : Option BatchFault) (room : Verdict) → verdict_by fault room ≡ Accepted → fault ≡ None
@@ -35,10 +36,10 @@ rejected_trial number (change ∷ changes) (OutOfBits field needed free) why now
 rejected_trial number (change ∷ changes) (OutOfSlots needed free) why now is = refl
 
 -- a batch that is taken changes the set
-pub taken_commit : (v : Verdict) (now : Explained) → v ≡ Accepted → committed v now ≡ record now { rules = set_after now.rules now.batch; batch = [] }
+pub taken_commit : (v : Verdict) (now : Explained) → v ≡ Accepted → committed v now ≡ record now { rules = set_after now.rules (changes_of now); batch = []; asked = Nothing }
 taken_commit v now is = ap (λ (w : Verdict). committed w now) is
 
 -- and behind a trial with changes the set isn't known
-pub taken_trial : (number : ℕ) (batch : List Change) (v : Verdict) (now : Explained) → v ≡ Accepted → (batch ≡ [] → ⊥) → tried number batch v now ≡ record now { batch = []; foretold = foretold.BehindTrial number }
+pub taken_trial : (number : ℕ) (batch : List Change) (v : Verdict) (now : Explained) → v ≡ Accepted → (batch ≡ [] → ⊥) → tried number batch v now ≡ record now { batch = []; asked = Nothing; foretold = foretold.BehindTrial number }
 taken_trial number [] v now is some = absurd (some refl)
 taken_trial number (change ∷ changes) v now is some = ap (λ (w : Verdict). tried number (change ∷ changes) w now) is

@@ -1,17 +1,20 @@
 -- What an explanation of a script finds: by the script that its bytes are to a run, and by the rule lists alone.
-use Rattle.std.specs.Prelude.{◌≡◌, ◌≢◌, ℕ, Bool, true, false, List, [], ◌∷◌, ◌++◌}
+use Rattle.std.specs.Prelude.{◌≡◌, ◌≢◌, ℕ, Bool, true, false, List, [], ◌∷◌}
 use Rattle.std.specs.List.{AllByRecursion}
 use Rattle.rule_model.specs.declared.Rule.{Rule}
 use Rattle.rule_store.specs.declared.Mode.{Mode}
 use Rattle.rule_store.specs.declared.Command.{Command as Change}
 use Rattle.rule_store.specs.Batch.{set_after}
-use Rattle.rule_store.specs.Verdict.{Verdict, Accepted, Unsound, OutOfBits, OutOfSlots, verdict}
+use Rattle.rule_store.specs.Verdict.{Verdict, Accepted, Unsound, OutOfBits, OutOfSlots}
+use Rattle.settled_changes.specs.declared.requested.Requested.{Requested}
+use Rattle.settled_changes.specs.declared.requested.Requested.TheVariants.{Nothing, Whole as WholeSet}
+use Rattle.settled_changes.specs.Requested.{asked_behind, asked_with, batch_behind, batch_with, settled_batch, settled_verdict}
 use Rattle.batch_order.specs.declared.Placement.TheVariants.{Middle}
 use Rattle.script_runs.specs.declared.Status.{Status}
 use Rattle.script_runs.specs.declared.Status.TheVariants as status
 use Rattle.script_runs.specs.Script.{Whole, acts_of}
 use Rattle.replay.specs.declared.Act.{Act}
-use Rattle.replay.specs.declared.Act.TheVariants.{Command, Probe, Packet, Commit, Trial, Crash}
+use Rattle.replay.specs.declared.Act.TheVariants.{Command, Ask, All, Probe, Packet, Commit, Trial, Crash}
 use Rattle.replay.specs.Effects.{Setting}
 use Rattle.replay.specs.Script.{Script, script_of}
 use Rattle.tcam_cli.specs.Headline.{decided}
@@ -34,28 +37,38 @@ judged_by (Unsound fault) behind = true
 judged_by (OutOfBits field needed free) behind = true
 judged_by (OutOfSlots needed free) behind = true
 
--- Whether the rule lists alone foretell that a commit of the acts is refused: by the set before the acts, and the batch that is
--- pending. Behind an accepted trial with changes nothing is foretold, since the number of its writes decides which set stands.
-abbrev pub foretells : ℕ → Mode → List Rule → List Change → List Act → Bool
-foretells slots mode rules batch [] = false
-foretells slots mode rules batch (Command change ∷ acts) = foretells slots mode rules (batch ++ change ∷ []) acts
-foretells slots mode rules batch (Probe key ∷ acts) = foretells slots mode rules batch acts
-foretells slots mode rules batch (Packet key ∷ acts) = foretells slots mode rules batch acts
-foretells slots mode rules batch (Commit ∷ acts) =
-    judged_by (verdict slots mode rules batch) (foretells slots mode (set_after rules batch) [] acts)
-foretells slots mode rules [] (Trial most ∷ acts) =
-    judged_by (verdict slots mode rules []) (foretells slots mode (set_after rules []) [] acts)
-foretells slots mode rules (change ∷ changes) (Trial most ∷ acts) = judged_by (verdict slots mode rules (change ∷ changes)) false
-foretells slots mode rules batch (Crash after ∷ acts) =
-    judged_by (verdict slots mode rules batch) (foretells slots mode (set_after rules batch) [] acts)
+-- The same of a trial that comes to these changes. Behind an accepted one with changes nothing is foretold, since the number of
+-- its writes decides which set stands; one of none is a commit.
+abbrev pub tried_by : List Change → Verdict → Bool → Bool
+tried_by [] v behind = judged_by v behind
+tried_by (change ∷ changes) v behind = judged_by v false
+
+-- Whether the rule lists alone foretell that a commit of the acts is refused: by the set before the acts, the batch that is
+-- pending, and what is asked for beside it.
+abbrev pub foretells : ℕ → Mode → List Rule → List Change → Requested → List Act → Bool
+foretells slots mode rules batch asked [] = false
+foretells slots mode rules batch asked (Command change ∷ acts) = foretells slots mode rules (batch_with batch asked change) (asked_with asked change) acts
+foretells slots mode rules batch asked (Ask request ∷ acts) = foretells slots mode rules (batch_behind batch asked) (asked_behind batch asked request) acts
+foretells slots mode rules batch asked (All ∷ acts) = foretells slots mode rules [] (WholeSet []) acts
+foretells slots mode rules batch asked (Probe key ∷ acts) = foretells slots mode rules batch asked acts
+foretells slots mode rules batch asked (Packet key ∷ acts) = foretells slots mode rules batch asked acts
+foretells slots mode rules batch asked (Commit ∷ acts) =
+    judged_by (settled_verdict slots mode rules batch asked) (foretells slots mode (set_after rules (settled_batch rules batch asked)) [] Nothing acts)
+foretells slots mode rules batch asked (Trial most ∷ acts) =
+    tried_by (settled_batch rules batch asked) (settled_verdict slots mode rules batch asked)
+    (foretells slots mode (set_after rules (settled_batch rules batch asked)) [] Nothing acts)
+foretells slots mode rules batch asked (Crash after ∷ acts) =
+    judged_by (settled_verdict slots mode rules batch asked) (foretells slots mode (set_after rules (settled_batch rules batch asked)) [] Nothing acts)
 
 -- the same of a script from its first act on
 abbrev pub is_refusal_foretold : Wanted → List Act → Bool
-is_refusal_foretold wanted acts = foretells wanted.slots wanted.mode [] [] acts
+is_refusal_foretold wanted acts = foretells wanted.slots wanted.mode [] [] Nothing acts
 
 -- an act that isn't a trial
 abbrev pub IsNoTrial : Act → Type 0
 IsNoTrial (Command change) = Unit {0}
+IsNoTrial (Ask request) = Unit {0}
+IsNoTrial All = Unit {0}
 IsNoTrial (Probe key) = Unit {0}
 IsNoTrial (Packet key) = Unit {0}
 IsNoTrial Commit = Unit {0}

@@ -1,7 +1,9 @@
 -- Where an explanation stands between two lines: words that only the contracts of calls need.
-use Rattle.std.specs.Prelude.{◌≡◌, ◌≢◌, ℕ, Bool, true, ◌||◌, Option, IfNone, IfSome, List, [], ◌++◌, length}
+use Rattle.std.specs.Prelude.{◌≡◌, ◌≢◌, ℕ, Bool, true, ◌||◌, Option, IfNone, IfSome, List, [], ◌++◌}
 use Rattle.rule_model.specs.declared.Rule.{Rule}
 use Rattle.rule_store.specs.declared.Command.{Command as Change}
+use Rattle.settled_changes.specs.declared.requested.Requested.{Requested}
+use Rattle.settled_changes.specs.Requested.{changes_in}
 use Rattle.script_lines.specs.Given.{HasEnd, MayGive}
 use Rattle.script_lines.specs.Reader.{HeldBytes}
 use Rattle.script_lines.specs.declared.Over.TheVariants as over
@@ -16,12 +18,13 @@ use Rattle.explain.specs.declared.explainer.Foretold.{Foretold}
 use Rattle.explain.specs.declared.explainer.Foretold.TheVariants as foretold
 use Rattle.explain.specs.Explained.{IsRightOf, foretells, is_refusal_foretold, script_for, setting_for}
 
--- what a contract sees of an explanation: the set, the pending batch, how many probes there were, how far refusals are foretold,
--- and whether something is wrong
+-- what a contract sees of an explanation: the set, the pending batch, what is asked for beside it, how many probes there were, how
+-- far refusals are foretold, and whether something is wrong
 pub record Explained : Type 0 where
   pub wanted : Wanted
   pub rules : List Rule
   pub batch : List Change
+  pub asked : Requested
   pub probes : ℕ
   pub foretold : Foretold
   pub wrong : Bool
@@ -30,14 +33,14 @@ pub record Explained : Type 0 where
 -- nothing was; behind a trial nothing more.
 abbrev pub ForetellsBy : Foretold → Explained → List Act → Type 0
 ForetellsBy foretold.Known now acts =
-    (more : List Act) → is_refusal_foretold now.wanted (acts ++ more) ≡ (now.wrong || foretells now.wanted.slots now.wanted.mode now.rules now.batch more)
+    (more : List Act) → is_refusal_foretold now.wanted (acts ++ more) ≡ (now.wrong || foretells now.wanted.slots now.wanted.mode now.rules now.batch now.asked more)
 ForetellsBy (foretold.BehindTrial line) now acts = (more : List Act) → is_refusal_foretold now.wanted (acts ++ more) ≡ now.wrong
 ForetellsBy (foretold.BehindFault line) now acts = ⊥
 
 -- The acts so far, of which none is at fault, and what is read of the script.
 pub record IsFaultless (by : Foretold) (bytes : List ℕ) (held : HeldBytes) (left : List ℕ) (now : Explained) : Type 0 where
   pub acts : List (NumberedAct Act)
-  pub read : IsReadSoFar held.over (script_kind (reading_by (setting_for now.wanted))) bytes held left acts (length now.batch, now.probes)
+  pub read : IsReadSoFar held.over (script_kind (reading_by (setting_for now.wanted))) bytes held left acts (changes_in now.batch now.asked, now.probes)
   pub tells : ForetellsBy by now (acts_only acts)
 
 -- A line of the script is at fault.

@@ -5,6 +5,7 @@ use replay::Family;
 use rule_model::{Rank, ipv4_route_of, ipv6_route_of, list_number_of};
 use rule_store::Command;
 use script_faults::write_address;
+use settled_changes::{Request, Requested};
 use std::alloc::AllocError;
 use std::collections::BTreeMap;
 
@@ -15,7 +16,7 @@ pub(crate) struct Seen {
     pub(crate) removed: bool,
 }
 
-/// What the commands of a batch do to a rule that they name.
+/// What the pending changes do to a rule that they name.
 #[derive(Clone, Copy, Debug, PartialEq, Eq)]
 enum Deed {
     Added,
@@ -23,36 +24,49 @@ enum Deed {
     Removed,
     /// Removed, and then added.
     Replaced,
+    /// Put, whether it was there or not.
+    Put,
+    /// Dropped, whether it was there or not.
+    Dropped,
 }
 
-/// The last command of a batch that names a rule: its line, and what it does.
+/// The last pending change that names a rule: its line, and what it does.
 #[derive(Clone, Copy, Debug, PartialEq, Eq)]
 struct Named {
     line: u32,
     deed: Deed,
 }
 
-/// What a command does to a rule, by how those before it named the rule.
-fn deed_of(command: &Command, before: Option<Named>) -> Deed {
-    match (command, before) {
-        (Command::Add(_), Some(named)) if named.deed == Deed::Removed => Deed::Replaced,
-        (Command::Add(_), _) => Deed::Added,
-        (Command::Set { .. }, _) => Deed::Changed,
-        (Command::Del(_), _) => Deed::Removed,
+/// What a change does to a rule, by how those before it named the rule.
+fn deed_of(change: &Request, before: Option<Named>) -> Deed {
+    match (change, before) {
+        (Request::Put(_), _) => Deed::Put,
+        (Request::Drop(_), _) => Deed::Dropped,
+        (Request::Strict(Command::Add(_)), Some(named)) if named.deed == Deed::Removed => {
+            Deed::Replaced
+        }
+        (Request::Strict(Command::Add(_)), _) => Deed::Added,
+        (Request::Strict(Command::Set { .. }), _) => Deed::Changed,
+        (Request::Strict(Command::Del(_)), _) => Deed::Removed,
     }
 }
 
-/// Tells of each command of the pending batch that the set doesn't take.
+/// Whether a rule was named by a change that doesn't ask what is there.
+fn is_forgiving(named: Named) -> bool {
+    named.deed == Deed::Put || named.deed == Deed::Dropped
+}
+
+/// Tells of each pending change that the set doesn't take.
 pub(crate) fn tell_changes(explainer: &Explainer, text: &mut String) -> Result<(), AllocError> {
     let mut named: BTreeMap<Rank, Named> = BTreeMap::new(explainer.alloc);
-    for i in 0..explainer.batch.len() {
-        let command = explainer.batch.at(i);
+    for i in 0..explainer.pending() {
+        let change = explainer.change_at(i);
         let line = explainer.lines[i as usize];
-        let before = named.get(&command.priority()).copied();
-        tell_change(explainer, &command, line, before, text)?;
-        let deed = deed_of(&command, before);
+        let before = named.get(&change.priority()).copied();
+        tell_change(explainer, &change, line, before, text)?;
+        let deed = deed_of(&change, before);
         if named
-            .insert(command.priority(), Named { line, deed })
+            .insert(change.priority(), Named { line, deed })
             .is_err()
         {
             return Err(AllocError);
@@ -61,29 +75,67 @@ pub(crate) fn tell_changes(explainer: &Explainer, text: &mut String) -> Result<(
     Ok(())
 }
 
-/// Tells of a command that the set doesn't take behind those before it, if it doesn't.
+/// Tells of a change that the set doesn't take behind those before it, if it doesn't.
 fn tell_change(
+    explainer: &Explainer,
+    change: &Request,
+    line: u32,
+    before: Option<Named>,
+    text: &mut String,
+) -> Result<(), AllocError> {
+    match change {
+        Request::Strict(command) => tell_command(explainer, command, line, before, text),
+        Request::Put(rule) => tell_request(explainer, rule.priority, line, before, text),
+        Request::Drop(priority) => tell_request(explainer, *priority, line, before, text),
+    }
+}
+
+/// Tells of a change that doesn't ask what is there, where a strict one before it names its rule.
+fn tell_request(
+    explainer: &Explainer,
+    priority: Rank,
+    line: u32,
+    before: Option<Named>,
+    text: &mut String,
+) -> Result<(), AllocError> {
+    match before {
+        Some(named) if !is_forgiving(named) => tell_twice(explainer, priority, line, named, text),
+        _ => Ok(()),
+    }
+}
+
+/// Tells of a strict command that the set doesn't take behind the changes before it, if it doesn't.
+fn tell_command(
     explainer: &Explainer,
     command: &Command,
     line: u32,
     before: Option<Named>,
     text: &mut String,
 ) -> Result<(), AllocError> {
-    let there = explainer.rules.rule(command.priority()).is_some();
+    let priority = command.priority();
+    let there = is_there(explainer, priority);
     match (command, before) {
         (Command::Add(_), Some(named)) if named.deed == Deed::Removed => Ok(()),
-        (_, Some(named)) => tell_twice(explainer, command, line, named, text),
-        (Command::Add(_), None) if there => tell_taken(explainer, command, line, text),
+        (_, Some(named)) => tell_twice(explainer, priority, line, named, text),
+        (Command::Add(_), None) if there => tell_taken(explainer, priority, line, text),
         (Command::Add(_), None) => Ok(()),
         (_, None) if there => Ok(()),
-        (_, None) => tell_absent(explainer, command, line, text),
+        (_, None) => tell_absent(explainer, priority, line, text),
     }
 }
 
-/// That a batch names a rule already.
+/// Whether the rule stands before the pending changes: of a whole new set none does.
+fn is_there(explainer: &Explainer, priority: Rank) -> bool {
+    match explainer.asked {
+        Requested::Whole(_) => false,
+        Requested::Nothing | Requested::Changes(_) => explainer.rules.rule(priority).is_some(),
+    }
+}
+
+/// That a pending change names a rule already.
 fn tell_twice(
     explainer: &Explainer,
-    command: &Command,
+    priority: Rank,
     line: u32,
     named: Named,
     text: &mut String,
@@ -94,9 +146,11 @@ fn tell_twice(
         Deed::Changed => "changed",
         Deed::Removed => "removed",
         Deed::Replaced => "replaced",
+        Deed::Put => "put",
+        Deed::Dropped => "dropped",
     };
     write!(text, "line {line}: ")?;
-    write_name(text, explainer.wanted.family, command.priority())?;
+    write_name(text, explainer.wanted.family, priority)?;
     writeln!(
         text,
         " was {deed} in line {earlier}, before the same commit"
@@ -106,13 +160,13 @@ fn tell_twice(
 /// That a rule which is added stands already.
 fn tell_taken(
     explainer: &Explainer,
-    command: &Command,
+    priority: Rank,
     line: u32,
     text: &mut String,
 ) -> Result<(), AllocError> {
     write!(text, "line {line}: ")?;
-    write_name(text, explainer.wanted.family, command.priority())?;
-    match explainer.seen.get(&command.priority()) {
+    write_name(text, explainer.wanted.family, priority)?;
+    match explainer.seen.get(&priority) {
         Some(seen) => {
             let earlier = seen.line;
             writeln!(text, " was added in line {earlier}")
@@ -124,13 +178,16 @@ fn tell_taken(
 /// That a rule which is changed or removed doesn't stand.
 fn tell_absent(
     explainer: &Explainer,
-    command: &Command,
+    priority: Rank,
     line: u32,
     text: &mut String,
 ) -> Result<(), AllocError> {
     write!(text, "line {line}: ")?;
-    write_name(text, explainer.wanted.family, command.priority())?;
-    match explainer.seen.get(&command.priority()) {
+    write_name(text, explainer.wanted.family, priority)?;
+    if let Requested::Whole(_) = explainer.asked {
+        return text.push_str(" isn't in the new set\n");
+    }
+    match explainer.seen.get(&priority) {
         Some(seen) if seen.removed => {
             let earlier = seen.line;
             writeln!(text, " was removed in line {earlier}")

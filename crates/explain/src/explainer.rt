@@ -1,21 +1,20 @@
 //! What is known of a script between two of its lines, and what one act more does to it.
 
-ghost use Rattle.std.specs.Prelude.{◌≡◌, ◌≢◌, ◌≤◌, [], false, Ok, Some, OnOk, length};
+ghost use Rattle.std.specs.Prelude.{◌≡◌, ◌≤◌, [], false, Ok, Some, OnOk};
 ghost use Rattle.rule_model.specs.declared.Key.{Key};
-ghost use Rattle.rule_store.specs.Batch.{IsSound, set_after};
 ghost use Rattle.script_lines.specs.Lines.{numbered};
+ghost use Rattle.settled_changes.specs.Requested.{changes_in};
 ghost use Rattle.tcam_cli.specs.Readings.{reading_by, told_by};
 ghost use Rattle.explain.specs.Explained.{setting_for};
-ghost use Rattle.explain.specs.Steps.{behind_act_in, behind_fault, behind_line, behind_line_by, committed, faulted, is_behind_fault, is_known, judged, refused, tried, verdict_in};
+ghost use Rattle.explain.specs.Steps.{behind_act_in, behind_fault, behind_line, behind_line_by, faulted, is_behind_fault, is_known};
 
-use crate::changes::{Seen, tell_changes};
-use crate::room::{tell_bits, tell_slots};
-use readback::{Rejection, verdict};
+use crate::changes::Seen;
 use replay::{Act, Family};
 use rule_model::Rank;
-use rule_store::{Batch, Command, Mode, Store};
+use rule_store::{Batch, Command, Mode, PENDING_COMMANDS, Store};
 use script_faults::{Grammar, tell_trouble, trouble_of};
 use script_lines::Line;
+use settled_changes::{Request, Requested, Requests};
 use std::alloc::{AllocError, Global};
 use std::collections::BTreeMap;
 use std::marker::Model;
@@ -23,9 +22,6 @@ use tcam_cli::{read_family_act, told_act};
 
 /// The most probes of a script.
 const PROBES: u32 = 16;
-
-/// The most changes that may be pending.
-const PENDING: u32 = 4096;
 
 /// What a script is explained for: of which family it is, how many slots are in use, 1 to 4,096, how port ranges are
 /// tested, and whether the report is in JSON.
@@ -48,15 +44,20 @@ pub(crate) enum Foretold {
     BehindFault { line: u32 },
 }
 
-/// What is known between two lines: the set, the pending batch with the line of each of its commands, the line of the last
-/// command that was carried out on each rule, how many probes there were, and what was found.
+/// What is known between two lines: the set, the pending changes with the line of each, the line of the last command that was
+/// carried out on each rule, how many probes there were, and what was found.
 #[derive(Drop)]
 pub(crate) struct Explainer {
     pub(crate) alloc: Global,
     pub(crate) wanted: Wanted,
     pub(crate) rules: Store,
     pub(crate) batch: Batch,
+    /// What is asked for beside strict commands alone.
+    pub(crate) asked: Requested,
+    /// The line of each pending change, in their order.
     pub(crate) lines: Vec<u32>,
+    /// The line that began the last whole new set.
+    pub(crate) whole_line: u32,
     pub(crate) seen: BTreeMap<Rank, Seen>,
     probes: u32,
     pub(crate) foretold: Foretold,
@@ -67,22 +68,23 @@ pub(crate) struct Explainer {
 }
 
 impl Model for Explainer {
-    ghost use Rattle.std.specs.Prelude.{◌≡◌, ◌≤◌, length, vec_len};
+    ghost use Rattle.std.specs.Prelude.{◌≡◌, ◌≤◌, vec_len};
     ghost use Rattle.replay.specs.Script.{most_probes};
+    ghost use Rattle.settled_changes.specs.Requested.{changes_in};
     ghost use Rattle.explain.specs.Rounds.{Explained};
 
     ghost Value = { Explained };
 
-    ghost view = { λ e. record { wanted = e.wanted; rules = e.rules.rules; batch = e.batch; probes = e.probes; foretold = e.foretold; wrong = e.wrong } };
+    ghost view = { λ e. record { wanted = e.wanted; rules = e.rules.rules; batch = e.batch; asked = e.asked; probes = e.probes; foretold = e.foretold; wrong = e.wrong } };
 
-    ghost invariant = { λ e. (vec_len e.lines ≡ length e.batch) × (e.probes ≤ most_probes) };
+    ghost invariant = { λ e. (vec_len e.lines ≡ changes_in e.batch e.asked) × (e.probes ≤ most_probes) };
 }
 
 /// Whether an act is judged by the rule lists.
 fn is_judged(act: &Act) -> bool {
     match act {
         Act::Commit | Act::Trial(_) | Act::Crash(_) => true,
-        Act::Command(_) | Act::Probe(_) | Act::Packet(_) => false,
+        Act::Command(_) | Act::Ask(_) | Act::All | Act::Probe(_) | Act::Packet(_) => false,
     }
 }
 
@@ -95,7 +97,7 @@ fn grammar_of(family: Family) -> Grammar {
 }
 
 /// Whether the rule lists tell the set.
-fn is_known(foretold: Foretold) -> bool
+pub(crate) fn is_known(foretold: Foretold) -> bool
     ensures { result ≡ is_known foretold }
 {
     match foretold {
@@ -127,39 +129,19 @@ fn behind_fault(number: u32, foretold: Foretold) -> Foretold
     }
 }
 
-/// Notes the lines of the commands of a batch that is carried out.
-fn note(seen: &mut BTreeMap<Rank, Seen>, batch: &Batch, lines: &[u32]) -> Result<(), AllocError>
-    requires { length lines.now ≡ length batch.now }
-{
-    for i in 0..batch.len() {
-        let command = batch.at(i);
-        let line = lines[i as usize];
-        let removed = match command {
-            Command::Add(_) => false,
-            Command::Del(_) => true,
-            Command::Set { .. } => continue,
-        };
-        if seen
-            .insert(command.priority(), Seen { line, removed })
-            .is_err()
-        {
-            return Err(AllocError);
-        }
-    }
-    Ok(())
-}
-
 impl Explainer {
     /// Nothing is read yet. It takes no memory.
     pub(crate) fn new(alloc: Global, wanted: Wanted) -> Explainer
-        ensures { result ≡ record { wanted = wanted; rules = []; batch = []; probes = 0; foretold = Foretold.Known; wrong = false } }
+        ensures { result ≡ record { wanted = wanted; rules = []; batch = []; asked = Requested.Nothing; probes = 0; foretold = Foretold.Known; wrong = false } }
     {
         Explainer {
             alloc,
             wanted,
             rules: Store::new(alloc),
             batch: Batch::new(alloc),
+            asked: Requested::Nothing,
             lines: Vec::new(alloc),
+            whole_line: 0,
             seen: BTreeMap::new(alloc),
             probes: 0,
             foretold: Foretold::Known,
@@ -261,6 +243,8 @@ impl Explainer {
     {
         match act {
             Act::Command(command) => self.change(*command, number, text),
+            Act::Ask(request) => self.ask(*request, number, text),
+            Act::All => self.begin_whole(number, text),
             Act::Probe(_) => self.probe(number, text),
             Act::Packet(_) => Ok(()),
             Act::Commit | Act::Crash(_) => self.commit(number, text),
@@ -268,22 +252,54 @@ impl Explainer {
         }
     }
 
-    /// A change joins the pending batch, or finds it full.
+    /// A strict change joins the pending ones, or finds no room.
     fn change(&mut self, command: Command, number: u32, text: &mut String) -> Result<(), AllocError>
         ensures { OnOk result (self.new ≡ behind_act_in self.old.foretold number (Act.Command command) self.old) }
     {
-        if self.batch.len() == PENDING {
+        if self.pending() >= PENDING_COMMANDS {
             let why = "4096 changes are pending, and a batch holds no more: commit";
             return self.fault(number, why, text);
         }
         self.lines.reserve(1)?;
-        match self.batch.push(command) {
+        match self.asked.push(command, &mut self.batch) {
             Ok(()) => {
                 self.lines.push_reserved(number);
                 Ok(())
             }
             Err(_) => Err(AllocError),
         }
+    }
+
+    /// A change that doesn't ask what is there joins the pending ones, or finds no room.
+    fn ask(&mut self, request: Request, number: u32, text: &mut String) -> Result<(), AllocError>
+        ensures { OnOk result (self.new ≡ behind_act_in self.old.foretold number (Act.Ask request) self.old) }
+    {
+        if self.pending() >= PENDING_COMMANDS {
+            let why = "4096 changes are pending, and a batch holds no more: commit";
+            return self.fault(number, why, text);
+        }
+        self.lines.reserve(1)?;
+        match self.asked.ask(self.alloc, request, &mut self.batch) {
+            Ok(()) => {
+                self.lines.push_reserved(number);
+                Ok(())
+            }
+            Err(_) => Err(AllocError),
+        }
+    }
+
+    /// The changes from here to the commit make the whole new set, unless some are pending already.
+    fn begin_whole(&mut self, number: u32, text: &mut String) -> Result<(), AllocError>
+        ensures { OnOk result (self.new ≡ behind_act_in self.old.foretold number Act.All self.old) }
+    {
+        if self.pending() > 0 {
+            let why = "changes are pending, and all begins a whole new set: commit";
+            return self.fault(number, why, text);
+        }
+        self.clear();
+        self.asked = Requested::Whole(Requests::new(self.alloc));
+        self.whole_line = number;
+        Ok(())
     }
 
     /// A probe more, or one too many.
@@ -298,132 +314,19 @@ impl Explainer {
         Ok(())
     }
 
-    /// A commit or a crash: over a known set the batch is judged, and else it goes.
-    fn commit(&mut self, number: u32, text: &mut String) -> Result<(), AllocError>
-        ensures { OnOk result (self.new ≡ judged self.old.foretold self.old (committed (verdict_in self.old) self.old)) }
+    /// How many changes are pending.
+    pub(crate) fn pending(&self) -> u32
+        ensures { result ≡ changes_in self.now.batch self.now.asked }
     {
-        if is_known(self.foretold) {
-            return self.judge(number, text);
-        }
-        self.pass();
-        Ok(())
+        self.asked.changes_with(&self.batch)
     }
 
-    /// A trial: over a known set the batch is judged, and else it goes. One of no changes is a commit.
-    fn try_commit(&mut self, number: u32, text: &mut String) -> Result<(), AllocError>
-        ensures { OnOk result (self.new ≡ judged self.old.foretold self.old (tried number self.old.batch (verdict_in self.old) self.old)) }
+    /// What is pending goes.
+    pub(crate) fn clear(&mut self)
+        ensures { self.new ≡ record self.old { batch = []; asked = Requested.Nothing } }
     {
-        if is_known(self.foretold) {
-            return self.judge_trial(number, text);
-        }
-        self.pass();
-        Ok(())
-    }
-
-    /// Judges the batch of a trial over a known set.
-    fn judge_trial(&mut self, number: u32, text: &mut String) -> Result<(), AllocError>
-        ensures { OnOk result (self.new ≡ tried number self.old.batch (verdict_in self.old) self.old) }
-    {
-        if self.batch.is_empty() {
-            return self.judge(number, text);
-        }
-        self.try_changes(number, text)
-    }
-
-    /// Judges the batch over a known set, which it changes where it is taken.
-    fn judge(&mut self, number: u32, text: &mut String) -> Result<(), AllocError>
-        ensures { OnOk result (self.new ≡ committed (verdict_in self.old) self.old) }
-    {
-        match verdict(
-            &self.rules,
-            &self.batch,
-            self.wanted.slots,
-            self.wanted.mode,
-        ) {
-            Err(rejection) => self.refuse(number, &rejection, text),
-            Ok(()) => self.apply(),
-        }
-    }
-
-    /// Judges the changes of a trial over a known set, which isn't known behind it where they are taken.
-    fn try_changes(&mut self, number: u32, text: &mut String) -> Result<(), AllocError>
-        requires { self.old.batch ≢ [] }
-        ensures { OnOk result (self.new ≡ tried number self.old.batch (verdict_in self.old) self.old) }
-    {
-        match verdict(
-            &self.rules,
-            &self.batch,
-            self.wanted.slots,
-            self.wanted.mode,
-        ) {
-            Err(rejection) => self.refuse(number, &rejection, text),
-            Ok(()) => {
-                self.foretold = Foretold::BehindTrial { line: number };
-                self.clear();
-                Ok(())
-            }
-        }
-    }
-
-    /// The pending batch goes, and a commit wasn't judged.
-    fn pass(&mut self)
-        ensures { self.new ≡ record self.old { batch = [] } }
-    {
-        self.unjudged = true;
-        self.clear();
-    }
-
-    /// The pending batch goes.
-    fn clear(&mut self)
-        ensures { self.new ≡ record self.old { batch = [] } }
-    {
+        self.asked = Requested::Nothing;
         self.batch.clear();
         self.lines.clear();
-    }
-
-    /// Tells why the batch is refused, which goes.
-    fn refuse(
-        &mut self,
-        number: u32,
-        rejection: &Rejection,
-        text: &mut String,
-    ) -> Result<(), AllocError>
-        ensures { OnOk result (self.new ≡ refused self.old) }
-    {
-        self.wrong = true;
-        self.tell_refusal(number, rejection, text)?;
-        self.clear();
-        Ok(())
-    }
-
-    /// Carries out the batch, which is taken, on the rule list alone. Past the last number of rules that are counted want of
-    /// memory is told.
-    fn apply(&mut self) -> Result<(), AllocError>
-        requires { IsSound self.old.rules self.old.batch }
-        ensures { OnOk result (self.new ≡ record self.old { rules = set_after self.old.rules self.old.batch; batch = [] }) }
-    {
-        if self.rules.len() > u32::MAX - PENDING {
-            return Err(AllocError);
-        }
-        self.rules.reserve(self.batch.len())?;
-        let commands = self.batch.commands(self.alloc)?;
-        note(&mut self.seen, &self.batch, &self.lines)?;
-        self.rules.apply(&commands);
-        self.clear();
-        Ok(())
-    }
-
-    /// Why a batch is refused, in a sentence or more.
-    fn tell_refusal(
-        &self,
-        number: u32,
-        rejection: &Rejection,
-        text: &mut String,
-    ) -> Result<(), AllocError> {
-        match rejection {
-            Rejection::Unsound(_) => tell_changes(self, text),
-            Rejection::Bits { field, need, free } => tell_bits(number, *field, *need, *free, text),
-            Rejection::Slots { need, free } => tell_slots(self, number, *need, *free, text),
-        }
     }
 }

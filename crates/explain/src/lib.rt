@@ -17,14 +17,17 @@
 //! leave (`rule_store`). So no sentence is needed to believe the status.
 //!
 //! # How it stands
-//! `script` is the loop, `explainer` what is known between two lines and what an act does to it, `changes` tells of batches
-//! that a set doesn't take, with the lines of both commands, and `room` of those for which there is none.
+//! `script` is the loop, `explainer` what is known between two lines and what an act does to it. `settling` has what pending
+//! changes come to, which `judging` judges. `changes` tells of those that a set doesn't take, with the lines of both commands,
+//! and `room` of those for which there is none.
 //!
 //! # Decided
 //! - **Behind the first line at fault no refusal is foretold**: which changes that line was to make nobody knows, and a
 //!   refusal that rests on it would be a guess. The faults of lines are told to the end of the script.
 //! - **Behind a trial with changes no refusal is foretold either**, since how many writes it makes decides whether it is
 //!   taken back, and no rule list tells that. One of no changes leaves the set as it is.
+//! - **What `put`, `drop` and `all` come to is reckoned as at a commit** (`settled_changes`), and is from then on as strict
+//!   commands, each with the line of the last change that names its rule, or else that of `all`.
 //! - **Of a refused batch each change is told that the set doesn't take**, where a commit's line names the first: who has
 //!   300 of them sees them all.
 //! - **A byte at fault ends the explanation**, as it ends the reading of lines (`script_lines`): what stands behind isn't
@@ -33,8 +36,10 @@
 
 mod changes;
 mod explainer;
+mod judging;
 mod room;
 mod script;
+mod settling;
 
 pub use explainer::Wanted;
 pub use script::explain_script;

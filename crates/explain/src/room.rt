@@ -1,7 +1,5 @@
 //! Batches for which there is no room: of slots, or of bits.
 
-ghost use Rattle.std.specs.Prelude.{◌≤◌};
-
 use crate::changes::write_name;
 use crate::explainer::Explainer;
 use commit_writes::{added_ranges, free_bits};
@@ -110,7 +108,8 @@ fn greatest(explainer: &Explainer) -> [Option<RuleSize>; MOST_TOLD] {
     }
     for i in 0..explainer.batch.len() {
         if let Command::Add(rule) = explainer.batch.at(i) {
-            put(&mut found, sized(&rule, explainer.lines[i as usize]));
+            let line = explainer.lines.get(i as usize).copied();
+            put(&mut found, sized(&rule, line.unwrap_or(0)));
         }
     }
     found
@@ -125,12 +124,13 @@ fn sized(rule: &Rule, line: u32) -> RuleSize {
     }
 }
 
-/// Puts a rule among the greatest, in front of those that take less.
+/// Puts a rule among the greatest, in front of those that take less, which keep their order.
 fn put(found: &mut [Option<RuleSize>; MOST_TOLD], new: RuleSize) {
     let mut next = Some(new);
+    let mut moves = false;
     for place in 0..MOST_TOLD {
         let is_less = match (found[place], next) {
-            (Some(there), Some(coming)) => there.entries < coming.entries,
+            (Some(there), Some(coming)) => moves || there.entries < coming.entries,
             (None, _) => true,
             (_, None) => false,
         };
@@ -138,13 +138,16 @@ fn put(found: &mut [Option<RuleSize>; MOST_TOLD], new: RuleSize) {
             let there = found[place];
             found[place] = next;
             next = there;
+            moves = true;
         }
     }
 }
 
-/// What all rules would take with a bit for each range.
+/// What the batch would take with a bit for each range, beside an entry for each rule that stands.
 fn tell_by_bits(explainer: &Explainer, number: u32, text: &mut String) -> Result<(), AllocError> {
-    let rules = u64::from(explainer.rules.len()) + new_rules(explainer);
+    let slots = explainer.wanted.slots;
+    let need = explainer.rules.entries_added(Mode::Bits, &explainer.batch);
+    let free = slots.saturating_sub(explainer.rules.len());
     let src = bits_needed(explainer, Field::Src);
     let dst = bits_needed(explainer, Field::Dst);
     let bits = u32::from(FIELD_BITS);
@@ -156,24 +159,9 @@ fn tell_by_bits(explainer: &Explainer, number: u32, text: &mut String) -> Result
     } else {
         writeln!(
             text,
-            "line {number}: with --ranges bits all rules take {rules}"
+            "line {number}: with --ranges bits it takes {need} slots, and {free} of {slots} are free"
         )
     }
-}
-
-/// How many rules the batch adds that replace none.
-fn new_rules(explainer: &Explainer) -> u64
-    ensures { result ≤ 4096 }
-{
-    let mut count = 0;
-    for i in 0..explainer.batch.len() {
-        if let Command::Add(rule) = explainer.batch.at(i) {
-            if explainer.rules.rule(rule.priority).is_none() {
-                count += 1;
-            }
-        }
-    }
-    count
 }
 
 /// How many ranges of a field the set and the batch have that need a bit, and more than there are where the set alone

@@ -134,7 +134,7 @@ fn closing(explainer: &Explainer) -> Result<String, AllocError> {
         }
         _ => {}
     }
-    match (explainer.foretold, explainer.batch.len()) {
+    match (explainer.foretold, explainer.pending()) {
         (Foretold::BehindFault { .. }, _) | (_, 0) => {}
         (_, 1) => text.push_str("1 change has no commit behind it\n")?,
         (_, changes) => writeln!(text, "{changes} changes have no commit behind them")?,

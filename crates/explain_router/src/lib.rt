@@ -213,7 +213,7 @@ fn count_change(pending: &mut u32, wrong: &mut bool) -> bool
     ensures few { pending.new ≤ PENDING }
     ensures next { behind_change (full_fault pending.old) pending.old wrong.old ≡ (pending.new, wrong.new) }
 {
-    if *pending == PENDING {
+    if *pending >= PENDING {
         *wrong = true;
         return true;
     }

@@ -7,7 +7,7 @@ use rule_model::IpVersion;
 use std::alloc::AllocError;
 
 /// The other version.
-fn other(version: IpVersion) -> IpVersion {
+pub(crate) fn other(version: IpVersion) -> IpVersion {
     match version {
         IpVersion::V4 => IpVersion::V6,
         IpVersion::V6 => IpVersion::V4,

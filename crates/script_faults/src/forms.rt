@@ -59,16 +59,18 @@ pub enum Kind {
 /// The commands, by the words that they take.
 #[derive(Clone, Copy, Debug, PartialEq, Eq)]
 pub enum Form {
-    /// `route add` and `route set`: a prefix and a result.
+    /// `route add`, `route set` and `route put`: a prefix and a result.
     Route,
-    /// `route del`: a prefix.
+    /// `route del` and `route drop`: a prefix.
     RouteDel,
-    /// `acl add`: all of a rule.
+    /// `acl add` and `acl put`: all of a rule.
     AclAdd,
     /// `acl set`: a sequence number and an action.
     AclSet,
-    /// `acl del`: a sequence number.
+    /// `acl del` and `acl drop`: a sequence number.
     AclDel,
+    /// `route all` and `acl all`: nothing more.
+    All,
     /// `probe` and `packet`: a key.
     Key,
     /// `frame`: the bytes of a packet.
@@ -101,8 +103,9 @@ fn route_form(second: Option<&[u8]>) -> Result<Form, usize>
     ensures { IfErr result (λ place. place ≤ 1) }
 {
     match second {
-        Some(b"add") | Some(b"set") => Ok(Form::Route),
-        Some(b"del") => Ok(Form::RouteDel),
+        Some(b"add") | Some(b"set") | Some(b"put") => Ok(Form::Route),
+        Some(b"del") | Some(b"drop") => Ok(Form::RouteDel),
+        Some(b"all") => Ok(Form::All),
         _ => Err(1),
     }
 }
@@ -112,9 +115,10 @@ fn list_form(second: Option<&[u8]>) -> Result<Form, usize>
     ensures { IfErr result (λ place. place ≤ 1) }
 {
     match second {
-        Some(b"add") => Ok(Form::AclAdd),
+        Some(b"add") | Some(b"put") => Ok(Form::AclAdd),
         Some(b"set") => Ok(Form::AclSet),
-        Some(b"del") => Ok(Form::AclDel),
+        Some(b"del") | Some(b"drop") => Ok(Form::AclDel),
+        Some(b"all") => Ok(Form::All),
         _ => Err(1),
     }
 }
@@ -139,6 +143,14 @@ pub(crate) fn kind_at(form: Form, place: usize) -> Option<Kind> {
     }
 }
 
+/// The place of the first word of a command that doesn't name it.
+pub(crate) fn first_place(form: Form) -> usize {
+    match form {
+        Form::Key | Form::Frame | Form::Commit | Form::Limit => 1,
+        Form::Route | Form::RouteDel | Form::AclAdd | Form::AclSet | Form::AclDel | Form::All => 2,
+    }
+}
+
 /// How many words a command has.
 pub(crate) fn words_in(form: Form) -> usize
     ensures { result ≤ 9 }
@@ -149,6 +161,7 @@ pub(crate) fn words_in(form: Form) -> usize
         Form::AclAdd => 9,
         Form::AclSet => 4,
         Form::AclDel => 3,
+        Form::All => 2,
         Form::Key => 6,
         Form::Frame => 2,
         Form::Commit => 1,
@@ -164,6 +177,7 @@ pub(crate) fn form_text(form: Form) -> &'static str {
         Form::AclAdd => "SEQ ACTION SIDE SIDE PROTOSPEC PORTSPEC PORTSPEC",
         Form::AclSet => "SEQ ACTION",
         Form::AclDel => "SEQ",
+        Form::All => "no word",
         Form::Key => "SRC DST PROTO SPORT DPORT",
         Form::Frame => "HEX",
         Form::Commit => "no word",

@@ -15,15 +15,17 @@
 //!
 //! # What is promised
 //! A trouble comes exactly where the reader answers a fault, and has that fault (`trouble_of`). A word that it names as bad
-//! has this fault, as a word of its kind, one that is missing isn't there, and one too many is (`IsAtFault` of
-//! `specs/Troubles`). The sentences, and that the word is the leftmost one, are tested.
+//! has this fault, as a word of its kind; in the place of one that is missing none stands, or one that isn't of its kind; and
+//! one too many is there (`IsAtFault` of `specs/Troubles`). The sentences, and that the word is the leftmost one, are tested.
 //!
 //! # Decided
-//! - **The reader decides, and the search explains.** Nothing here says whether a line is right: no change of a reader can
-//!   part the two. The search looks for the leftmost word that has the reader's fault; where it found none, the fault
-//!   would be told by its own text (`Unexplained`). That there always is one is tested, and no clause says it.
+//! - **The reader decides, and the search explains.** Of a script of one table nothing here says whether a line is right: no
+//!   change of a reader can part the two. Of a router's it is said here too which commands it has none of. The search looks
+//!   for the leftmost word that has the reader's fault; where it found none, the fault would be told by its own text
+//!   (`Unexplained`). That there always is one is tested, and no clause says it.
 //! - **A word has the number of its place, from 1**, and no column of bytes: blanks part words in any number, and an editor
-//!   shows the line. A word that is missing has the number that it would have.
+//!   shows the line. A word that is missing has the number that it would have: where the next one stands in its place, the
+//!   number of that one, which is named.
 //! - **What is wrong may be a part of the word**, as the length of a prefix or one number of an address: that part stands
 //!   before the colon.
 #![tactic(auto)]

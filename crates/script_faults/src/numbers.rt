@@ -1,6 +1,6 @@
 //! Sentences on numbers.
 
-use crate::parts::{is_digits, tell, without_zeros};
+use crate::parts::{is_digits, tell, without_zeros, write_word};
 use std::alloc::AllocError;
 
 /// What is wrong with a word that is to be a number in a range, and isn't.
@@ -18,7 +18,8 @@ pub(crate) fn tell_number(
         [b'+', ..] | [b'-', ..] => tell(text, word, "numbers have no sign"),
         [b'0', b'x', ..] | [b'0', b'X', ..] => tell(text, word, "numbers are decimal"),
         _ => {
-            write!(text, "{word}: ")?;
+            write_word(text, word)?;
+            text.push_str(": ")?;
             tell_range(text, "a number", least, most)
         }
     }

@@ -26,7 +26,17 @@ pub(crate) fn value_of(word: &str) -> Option<u64> {
     word.parse::<u64>().ok()
 }
 
+/// Writes a word that a colon follows: in quotation marks where it is empty or ends in one itself.
+pub(crate) fn write_word(text: &mut String, word: &str) -> Result<(), AllocError> {
+    if word.is_empty() || word.ends_with(':') {
+        write!(text, "\"{word}\"")
+    } else {
+        text.push_str(word)
+    }
+}
+
 /// What is wrong with a word, in a sentence.
 pub(crate) fn tell(text: &mut String, word: &str, meant: &str) -> Result<(), AllocError> {
-    write!(text, "{word}: {meant}")
+    write_word(text, word)?;
+    write!(text, ": {meant}")
 }

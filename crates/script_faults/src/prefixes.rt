@@ -2,7 +2,7 @@
 
 ghost use Rattle.std.specs.Prelude.{◌≤◌};
 
-use crate::addresses::{is_address, tell_address};
+use crate::addresses::{is_address, other, tell_address, tell_version};
 use crate::parts::{tell, value_of, without_zeros};
 use line_words::{Ipv6Text, address_of};
 use rule_model::{Addr, IpVersion};
@@ -83,7 +83,7 @@ fn tell_parts(
     version: IpVersion,
 ) -> Result<(), AllocError> {
     let Ok(number) = address_of(address.as_bytes(), version) else {
-        return tell_address(text, address, version);
+        return tell_no_address(text, word, address, version);
     };
     if len.contains('/') {
         return tell(text, word, "a prefix has one slash");
@@ -98,6 +98,22 @@ fn tell_parts(
         }
         None => tell_odd_length(text, word, len, version),
     }
+}
+
+/// What is wrong with a prefix before whose slash no address of the version stands.
+fn tell_no_address(
+    text: &mut String,
+    word: &str,
+    address: &str,
+    version: IpVersion,
+) -> Result<(), AllocError> {
+    if address.is_empty() {
+        return tell(text, word, "an address stands before the slash");
+    }
+    if is_address(address, other(version)) {
+        return tell_version(text, word, version);
+    }
+    tell_address(text, address, version)
 }
 
 /// What is wrong with a prefix whose length is a number: it is too great, or bits are set past it.

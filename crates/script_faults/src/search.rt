@@ -1,21 +1,23 @@
 //! Which word of a line is at fault.
 
-ghost use Rattle.std.specs.Prelude.{◌≡◌, ◌≤◌, ℕ, List, IfSome, codes, length, option_map, take};
+ghost use Rattle.std.specs.Prelude.{◌≡◌, ◌≤◌, ℕ, List, IfSome, IsSome, codes, length, option_map, take};
 ghost use Rattle.std.specs.Str.{bytes_eq};
 ghost use Rattle.line_words.specs.Kinds.{Notation};
 ghost use Rattle.line_words.specs.Notations.{notation_for};
 ghost use Rattle.line_words.specs.Words.{words_of};
 ghost use Rattle.script_faults.specs.Troubles as troubles;
-ghost use Rattle.script_faults.specs.Troubles.{IsAtFault, line_fault, grammar_version};
+ghost use Rattle.route_reader.specs.Grammar.{route_line};
+ghost use Rattle.acl_reader.specs.Grammar.{acl_line};
+ghost use Rattle.script_faults.specs.Troubles.{IsAtFault, fault_by, grammar_version, line_fault, list_command_fault, route_command_fault};
 
 use crate::forms::{Form, Grammar, Kind, form_of, kind_at, words_in};
 use crate::places::word_at;
-use acl_reader::read_acl;
+use acl_reader::{AclCommand, read_acl};
 use line_words::{
     WordFault, action_of, address_of, count_of, frame_key, port_of, ports_of, prefix_of,
     protocol_choice, protocol_of, result_of, sequence_of, side_of,
 };
-use route_reader::read_route;
+use route_reader::{RouteCommand, read_route};
 use rule_model::IpVersion;
 use script_lines::{LINE_BYTES, Line};
 
@@ -26,6 +28,8 @@ pub enum Why {
     Unknown,
     /// It is missing: the command has more words.
     Missing(Form),
+    /// The word of this kind is missing before it: the command has more words, and this one is the next one's.
+    Skipped(Form, Kind),
     /// It is one too many for this command.
     TooMany(Form),
     /// It isn't of its kind.
@@ -35,7 +39,7 @@ pub enum Why {
 }
 
 /// What is wrong with a line: the reader's fault, the place of the word that has it, from 0, and why it has. At the
-/// place of a word that is missing none stands.
+/// place of a word that is missing none stands, or the next one.
 #[derive(Clone, Copy, Debug, PartialEq, Eq)]
 pub struct Trouble {
     pub fault: WordFault,
@@ -92,9 +96,62 @@ fn fault_from(version: IpVersion, first: &[u8], line: &Line) -> Option<WordFault
         return Some(WordFault::UnknownCommand);
     }
     if is_acl(first) {
-        return read_acl(line, version).err();
+        return list_fault(version, line);
     }
-    read_route(line, version).err()
+    routes_fault(version, line)
+}
+
+/// The fault of a line for a router's list, if it has one.
+fn list_fault(version: IpVersion, line: &Line) -> Option<WordFault>
+    requires { line.now.len ≤ LINE_BYTES }
+    ensures { result ≡ fault_by list_command_fault (acl_line (notation_for version) (take line.now.len line.now.bytes)) }
+{
+    match read_acl(line, version) {
+        Ok(Some(command)) => list_command_fault(&command),
+        Ok(None) => None,
+        Err(fault) => Some(fault),
+    }
+}
+
+/// The fault of a line for a router's routes, or for both of its tables, if it has one.
+fn routes_fault(version: IpVersion, line: &Line) -> Option<WordFault>
+    requires { line.now.len ≤ LINE_BYTES }
+    ensures { result ≡ fault_by route_command_fault (route_line (notation_for version) (take line.now.len line.now.bytes)) }
+{
+    match read_route(line, version) {
+        Ok(Some(command)) => route_command_fault(&command),
+        Ok(None) => None,
+        Err(fault) => Some(fault),
+    }
+}
+
+/// The fault of a command of an access list in a router's script, which has none that doesn't ask what is there.
+fn list_command_fault(command: &AclCommand) -> Option<WordFault>
+    ensures { result ≡ list_command_fault command.now }
+{
+    match command {
+        AclCommand::Put(_) | AclCommand::Drop(_) | AclCommand::All => {
+            Some(WordFault::UnknownCommand)
+        }
+        AclCommand::Add(_) | AclCommand::Set(_, _) | AclCommand::Del(_) | AclCommand::Common(_) => {
+            None
+        }
+    }
+}
+
+/// The same of a command of routes.
+fn route_command_fault(command: &RouteCommand) -> Option<WordFault>
+    ensures { result ≡ route_command_fault command.now }
+{
+    match command {
+        RouteCommand::Put(_, _) | RouteCommand::Drop(_) | RouteCommand::All => {
+            Some(WordFault::UnknownCommand)
+        }
+        RouteCommand::Add(_, _)
+        | RouteCommand::Set(_, _)
+        | RouteCommand::Del(_)
+        | RouteCommand::Common(_) => None,
+    }
 }
 
 /// Whether a word begins a command of scripts of one table, and none of a router's.
@@ -143,36 +200,61 @@ fn wrong_in(form: Form, fault: WordFault, version: IpVersion, text: &[u8]) -> (u
     ensures near { result.0 ≤ 9 }
 {
     match fault {
-        WordFault::WordCount => miscounted(form, text),
+        WordFault::WordCount => miscounted(form, version, text),
+        // A router's script has no such command.
+        WordFault::UnknownCommand => (1, Why::Unknown),
         _ => wrong_among(form, fault, version, text),
     }
 }
 
 /// The word that a command has too many, and else the leftmost one that is missing.
-fn miscounted(form: Form, text: &[u8]) -> (usize, Why)
-    ensures word { (notation : Notation) → IsAtFault notation (words_of text.now) WordFault.WordCount result.0 result.1 }
+fn miscounted(form: Form, version: IpVersion, text: &[u8]) -> (usize, Why)
+    requires { length text.now ≤ LINE_BYTES }
+    ensures word { IsAtFault (notation_for version) (words_of text.now) WordFault.WordCount result.0 result.1 }
     ensures near { result.0 ≤ 9 }
 {
     let words = words_in(form);
     match word_at(text, words) {
         Some(_) => (words, Why::TooMany(form)),
-        None => missing(form, words, text),
+        None => missing(form, words, version, text),
     }
 }
 
-/// The leftmost word that is missing of a command of so many words.
-fn missing(form: Form, words: usize, text: &[u8]) -> (usize, Why)
-    requires { words ≤ 9 }
-    ensures word { (notation : Notation) → IsAtFault notation (words_of text.now) WordFault.WordCount result.0 result.1 }
+/// The leftmost word that is missing of a command of so many words: one in whose place the next one stands, or else the one
+/// behind the last.
+fn missing(form: Form, words: usize, version: IpVersion, text: &[u8]) -> (usize, Why)
+    requires words { words ≤ 9 }
+    requires short { length text.now ≤ LINE_BYTES }
+    ensures word { IsAtFault (notation_for version) (words_of text.now) WordFault.WordCount result.0 result.1 }
     ensures near { result.0 ≤ 9 }
 {
     for place in 0..words {
         match word_at(text, place) {
-            Some(_) => {}
+            Some(word) => {
+                if let Some(kind) = skipped_kind(form, place, word, version) {
+                    return (place, Why::Skipped(form, kind));
+                }
+            }
             None => return (place, Why::Missing(form)),
         }
     }
     (0, Why::Unexplained)
+}
+
+/// The kind of the word that is to stand at a place of a command, where this one isn't of it and is of the next one's.
+fn skipped_kind(form: Form, place: usize, word: &[u8], version: IpVersion) -> Option<Kind>
+    requires { length word.now ≤ LINE_BYTES }
+    ensures { IfSome result (λ kind. IsSome (troubles.word_fault (notation_for version) kind word.now)) }
+{
+    let kind = kind_at(form, place)?;
+    let next = kind_at(form, place.saturating_add(1))?;
+    match (
+        word_fault(kind, word, version),
+        word_fault(next, word, version),
+    ) {
+        (Some(_), None) => Some(kind),
+        _ => None,
+    }
 }
 
 /// The leftmost word of a command that has a fault.

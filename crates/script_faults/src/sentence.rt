@@ -4,10 +4,11 @@ ghost use Rattle.std.specs.Prelude.{◌≤◌};
 
 use crate::actions::tell_action;
 use crate::addresses::tell_packet_address;
-use crate::commands::{tell_first, tell_missing, tell_too_many, tell_verb};
+use crate::commands::{tell_first, tell_missing, tell_skipped, tell_too_many, tell_verb, verbs_of};
 use crate::forms::{Grammar, Kind};
 use crate::frames::tell_frame;
 use crate::numbers::tell_number;
+use crate::parts::tell;
 use crate::places::word_at;
 use crate::ports::{tell_packet_port, tell_ports};
 use crate::prefixes::{tell_prefix, tell_side};
@@ -33,14 +34,21 @@ pub fn tell_trouble(
     write!(text, "word {number}")?;
     match trouble.why {
         Why::Missing(form) => tell_missing(text, form),
-        Why::Unknown if word.is_empty() => text.push_str(" is missing: add, set or del"),
+        Why::Unknown if word.is_empty() => {
+            let verbs = verbs_of(grammar);
+            write!(text, " is missing: {verbs}")
+        }
         Why::Unknown => {
             text.push_str(", ")?;
             if trouble.place == 0 {
                 tell_first(text, word, grammar)
             } else {
-                tell_verb(text, word)
+                tell_verb(text, word, grammar)
             }
+        }
+        Why::Skipped(form, _) => {
+            text.push_str(", ")?;
+            tell_skipped(text, word, form, trouble.place)
         }
         Why::TooMany(form) => {
             text.push_str(", ")?;
@@ -51,8 +59,8 @@ pub fn tell_trouble(
             tell_bad(text, grammar, kind, word, trouble)
         }
         Why::Unexplained => {
-            let fault = trouble.fault.text();
-            write!(text, ", {word}: {fault}")
+            text.push_str(", ")?;
+            tell(text, word, trouble.fault.text())
         }
     }
 }

@@ -1,12 +1,18 @@
-use Rattle.std.proofs.Common.{sym}
-use Rattle.explain.proofs.Lines.{judge-refused, judge-taken, sound-as}
+use Rattle.explain.proofs.Settled.{fault-commit, next-commit, next-strict}
 use Rattle.explain.proofs.explainer.Explainer.judge.Goals as goal
 
-pub returns-in-Err : goal.returns-in-Err
-returns-in-Err c = judge-refused c.refuse.result c.in-Err.rejection _ c.args.self.now c.refuse.new.self c.self.view_is (sym c.in-Err.ensures.answer) c.refuse.ensures
+pub returns-in-Ok-Some : goal.returns-in-Ok-Some
+returns-in-Ok-Some c =
+    let h = c.in-Ok-Some in
+    let found = rw h.field-0-is at h.ensures.refused in
+    fault-commit c.refuse.result h.fault c.settle.new.self c.args.self.now c.refuse.new.self found.0 found.1 c.refuse.ensures
 
-pub apply-requires : goal.apply-requires
-apply-requires c = sound-as _ c.args.self.now c.self.view_is c.in-Ok.ensures.accepted
+pub judge_batch-requires : goal.judge_batch-requires
+judge_batch-requires c =
+    let h = c.in-Ok-None in
+    next-strict c.settle.new.self c.args.self.now (rw h.field-0-is at h.ensures.taken)
 
-pub returns-in-Ok : goal.returns-in-Ok
-returns-in-Ok c = judge-taken c.apply.result _ c.args.self.now c.apply.new.self c.self.view_is c.in-Ok.ensures.accepted c.apply.ensures
+pub returns-in-Ok-None : goal.returns-in-Ok-None
+returns-in-Ok-None c =
+    let h = c.in-Ok-None in
+    next-commit c.judge_batch.result c.settle.new.self c.args.self.now c.judge_batch.new.self (rw h.field-0-is at h.ensures.taken) c.judge_batch.ensures

@@ -1,14 +1,14 @@
 use Rattle.std.proofs.Common.{sym, ◌∙◌}
-use Rattle.explain.specs.Steps.{tried, verdict_in}
+use Rattle.explain.specs.Steps.{changes_of, tried, verdict_in}
 use Rattle.explain.proofs.Lines.{known-judged, other-passed}
 use Rattle.explain.proofs.explainer.Explainer.try_commit.Goals as goal
 
 pub returns-then-is_known : goal.returns-then-is_known
 returns-then-is_known c =
-    known-judged c.judge_trial.result (tried c.args.number c.args.self.now.batch (verdict_in c.args.self.now) c.args.self.now) _ c.args.self.now c.judge_trial.new.self c.self.view_is
+    known-judged c.judge_trial.result (tried c.args.number (changes_of c.args.self.now) (verdict_in c.args.self.now) c.args.self.now) _ c.args.self.now c.judge_trial.new.self c.self.view_is
     (sym c.is_known.ensures ∙ c.if-is_known.true) c.judge_trial.ensures
 
 pub returns : goal.returns
 returns c =
-    other-passed (tried c.args.number c.args.self.now.batch (verdict_in c.args.self.now) c.args.self.now) _ c.args.self.now c.pass.new.self c.self.view_is
+    other-passed (tried c.args.number (changes_of c.args.self.now) (verdict_in c.args.self.now) c.args.self.now) _ c.args.self.now c.pass.new.self c.self.view_is
     (sym c.is_known.ensures ∙ c.if-is_known.false) c.pass.ensures
