@@ -7,3 +7,8 @@ pub mod Reverted
 pub mod Restored
 pub mod Aborted
 pub mod Replaced
+pub mod Changes
+pub mod TakenBack
+pub mod Gained
+pub mod Noted
+pub mod Unmade

@@ -36,6 +36,7 @@ use Rattle.batch_order.specs.declared.held.Held.{Held}
 use Rattle.batch_order.specs.declared.translation.Translation.{Translation}
 use Rattle.batch_order.specs.ByParts.{longest_parts}
 use Rattle.batch_order.specs.Entries.{AreLast, Entries}
+use Rattle.batch_order.specs.Noting.{all_undo}
 use Rattle.batch_order.specs.Planning.{IsSettled, as_writes, all_writes}
 use Rattle.batch_order.specs.Managed.{HeldCommit, Way}
 use Rattle.batch_order.specs.Managed.Way.{On, Back}
@@ -174,7 +175,7 @@ pub record IsHeld (translation : Option Translation) (rules : StoredRules) (kept
   pub coded : coded_by held.bits ≡ mode_of translation
   pub during : during_of held.bits ≡ bits_with (mode_of translation) rules.rules held.batch (bits_of translation)
   pub way_back : held.prepared ≡ true
-      → IsPrepared translation rules kept slots held.ids.items (held_writes kept.entries held) (as_writes kept.entries held.rewrites.items held.undo.items)
+      → IsPrepared translation rules kept slots held.ids.items (held_writes kept.entries held) (as_writes kept.entries held.rewrites.items (all_undo held.undo))
   pub back : IsSome held.turned → held.prepared ≡ true
   -- and the parts of its longest insertion are known
   pub longest : held.prepared ≡ true → held.most_parts ≡ longest_parts (settled_state translation kept.entries slots) (held_writes kept.entries held)

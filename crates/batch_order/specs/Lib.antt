@@ -1,6 +1,7 @@
 pub mod Entries
 pub mod Arranged
 pub mod Planning
+pub mod Noting
 pub mod Placing
 pub mod Managed
 pub mod Steps

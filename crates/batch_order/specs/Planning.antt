@@ -6,9 +6,9 @@ use Rattle.slot_pool.specs.Arrangement.{Slots, home_of}
 use Rattle.rule_model.specs.Entry.{RankedPiece, entry_for}
 use Rattle.placement.specs.Live.{AreApart, is_live, is_above, rank_in}
 use Rattle.placement.specs.declared.Move.{Move}
-use Rattle.placement.specs.declared.Move.TheVariants.{Put, Erase}
 use Rattle.placement.specs.Placement.{Aiming, IsPlacement, IsInOrder, after_moves, span_of}
 use Rattle.placement.specs.Insertion.{IsLive, IsOther, StandOnce, free_slots}
+use Rattle.move_planner.specs.Noted.{IsInside}
 use Rattle.tcam_device.specs.declared.Write.{Write}
 use Rattle.tcam_device.specs.declared.Write.TheVariants.{Slot}
 use Rattle.tcam_device.specs.State.{IsInUse}
@@ -26,11 +26,6 @@ use Rattle.batch_order.specs.Entries.{Entries, KeepEntries}
 -- the id stands in a slot
 abbrev pub IsStanding : Slots → ℕ → Type 0
 IsStanding slots id = IsSome (home_of slots id)
-
--- the slot of a move is one of so many
-abbrev pub IsInside : ℕ → Move → Type 0
-IsInside slots (Put slot id) = slot < slots
-IsInside slots (Erase slot) = slot < slots
 
 -- the writes of a plan in the order in which they are made
 abbrev pub all_writes : PlannedWrites → List PlannedWrite

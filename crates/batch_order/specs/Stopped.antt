@@ -1,6 +1,5 @@
 -- A device that was stopped in a commit: what it shows, the ids that its pieces get again, and what is planned from there.
-use Rattle.std.specs.Prelude.{◌≡◌, ℕ, ◌-◌, ◌+◌, ◌≤◌, ◌<◌, ◌⊎◌, Bool, false, IsTrue, IfSome, None, Some, List, Vec, length, drop, take, nat_eq}
-use Rattle.std.specs.Global.{Global}
+use Rattle.std.specs.Prelude.{◌≡◌, ℕ, ◌-◌, ◌+◌, ◌≤◌, ◌<◌, ◌⊎◌, Bool, false, IsTrue, IfSome, None, Some, List, length, drop, take, nat_eq}
 use Rattle.std.specs.List.{AllByRecursion, IsDistinct}
 use Rattle.slot_order.specs.Order.{slot, most_slots}
 use Rattle.slot_pool.specs.Arrangement.{Slots}
@@ -30,8 +29,8 @@ use Rattle.batch_order.specs.Arranged.{Arranged, left_changes}
 use Rattle.batch_order.specs.declared.Placement.{Placement}
 use Rattle.batch_order.specs.declared.held.Held.{Held}
 use Rattle.batch_order.specs.declared.plan.Plan.{Plan}
-use Rattle.batch_order.specs.declared.planned_writes.PlannedWrite.{PlannedWrite}
 use Rattle.batch_order.specs.declared.restarting.resuming.Rest.{Rest}
+use Rattle.batch_order.specs.declared.undoing.PlannedUndo.{PlannedUndo}
 use Rattle.batch_order.specs.Entries.{AddsIds, Entries, HaveIds, KeepEntries}
 use Rattle.batch_order.specs.Kept.{changed_by}
 use Rattle.batch_order.specs.Placing.{aims_left}
@@ -75,7 +74,7 @@ counts_of plan = record { writes = length (all_writes plan.writes); words = plan
 
 -- What is held of a plan before its first write, with its drain, its batch, and where the entries stand in the end: it isn't
 -- prepared.
-abbrev pub held_from : Rest → Bool → Bool → List Command → Slots → Vec PlannedWrite Global → Held
+abbrev pub held_from : Rest → Bool → Bool → List Command → Slots → PlannedUndo → Held
 held_from rest awaits drained batch slots undo = record {
   prepared = false;
   writes = rest.plan.writes;

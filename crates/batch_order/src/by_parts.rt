@@ -3,13 +3,15 @@
 ghost use Rattle.std.specs.Prelude.{◌≡◌, ◌≤◌, ◌^◌, None, true, length};
 ghost use Rattle.batch_order.specs.ByParts.{longest_parts, paired_number, part_number, parts_number, put_back, put_number};
 ghost use Rattle.batch_order.specs.CarriedOut.{writes_left};
+ghost use Rattle.batch_order.specs.Noting.{all_undo};
 ghost use Rattle.batch_order.specs.Planning.{all_writes, as_writes};
 ghost use Rattle.batch_order.specs.Steps.{is_unwritten};
 ghost use Rattle.rule_model.specs.Entry as entries;
 
 use crate::entries::LiveEntries;
 use crate::manager::Manager;
-use crate::planned_writes::{PlannedWrite, PlannedWrites, write_of};
+use crate::planned_writes::{PlannedWrites, write_of};
+use crate::undoing::PlannedUndo;
 use commit_writes::Rewrite;
 use rule_model::Entry;
 use tcam_device::Write;
@@ -44,19 +46,20 @@ impl Manager {
 /// How many parts some planned writes take, by those that put back what each of them replaces.
 fn parts_of_all(
     writes: &PlannedWrites,
-    undo: &[PlannedWrite],
+    undo: &PlannedUndo,
     rewrites: &[Rewrite],
     live: &LiveEntries,
 ) -> u64
     requires few { length (all_writes writes.now) ≤ 2 ^ 39 }
-    requires size { length undo.now ≡ length (all_writes writes.now) }
-    ensures { result ≡ paired_number (as_writes live.now.entries rewrites.now (all_writes writes.now)) (as_writes live.now.entries rewrites.now undo.now) }
+    requires size { length (all_undo undo.now) ≡ length (all_writes writes.now) }
+    ensures { result ≡ paired_number (as_writes live.now.entries rewrites.now (all_writes writes.now)) (as_writes live.now.entries rewrites.now (all_undo undo.now)) }
 {
     let mut parts = 0;
     for place in 0..writes.len() {
         let planned = writes.get(place).unwrap();
         let write = write_of(&planned, live, rewrites);
-        let before = write_of(&undo[place], live, rewrites);
+        let back = undo.get(place).unwrap();
+        let before = write_of(&back, live, rewrites);
         parts += part_count(&write, &before) as u64;
     }
     parts

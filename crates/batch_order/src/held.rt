@@ -4,22 +4,23 @@ ghost use Rattle.std.specs.Prelude.{◌≡◌, ◌≤◌, ◌&&◌, true, false,
 ghost use Rattle.batch_order.specs.Kept.{drains_at, left_count, one_less, turned_at};
 ghost use Rattle.batch_order.specs.Planning.{all_writes};
 
-use crate::planned_writes::{PlannedWrite, PlannedWrites};
+use crate::planned_writes::PlannedWrites;
+use crate::stood::Stood;
+use crate::undoing::PlannedUndo;
 use crate::{AbortFault, Done};
 use commit_writes::{FieldBits, Rewrite};
 use rule_store::Commands;
-use slot_pool::Arrangement;
 
 /// A commit under way: its planned writes and how many of them were made, its numbers, and what is to be done once its
 /// writes are made: the batch that takes the rules to the new set, the ids that get another entry, the ids that go, by
-/// rising priority, and where the entries stand then.
+/// rising priority, and where the entries stand then, as the manager's arrangement has them already.
 #[derive(Drop)]
 pub(crate) struct Held {
     /// Whether `prepare` planned it. What stood before a commit that a restart goes on with isn't known.
     pub(crate) prepared: bool,
     pub(crate) writes: PlannedWrites,
     /// What restores each of the writes, in their order, where it is prepared.
-    pub(crate) undo: Vec<PlannedWrite>,
+    pub(crate) undo: PlannedUndo,
     /// How many of the writes stand: it falls once the plan is turned round.
     pub(crate) made: usize,
     /// How many stood when the plan was turned round.
@@ -36,7 +37,7 @@ pub(crate) struct Held {
     pub(crate) erased: Vec<u32>,
     /// The ids of its new entries.
     pub(crate) ids: Vec<u32>,
-    pub(crate) arrangement: Arrangement,
+    pub(crate) arrangement: Stood,
     /// The parts of its longest insertion, where each write is made by parts.
     pub(crate) most_parts: u32,
 }

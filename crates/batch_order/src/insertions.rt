@@ -7,6 +7,7 @@ ghost use Rattle.rule_model.specs.Entry.{IsEncodable};
 ghost use Rattle.placement.specs.Live.{is_live};
 ghost use Rattle.batch_order.specs.ByParts.{moves_put};
 ghost use Rattle.batch_order.specs.Entries.{AddsIds, AreLast, KeepEntries};
+ghost use Rattle.batch_order.specs.Noting.{AreNotedIn};
 ghost use Rattle.batch_order.specs.Placing.{aims_from, aims_of, ranks_of};
 ghost use Rattle.batch_order.specs.Planning.{IsPlannable, IsLastLive, IsWithin, IsInserted, ArePlannedSince, all_writes};
 
@@ -24,7 +25,8 @@ use slot_pool::Arrangement;
 use std::alloc::{AllocError, Global};
 
 /// Plans an insertion for each piece that a commit puts into a set, in their order and with the aims of the placement,
-/// and answers the ids of their entries. On want of memory the live entries are as they were.
+/// and answers the ids of their entries. On want of memory the live entries are as they were, and the arrangement is as the
+/// moves left it that are noted.
 pub(crate) fn plan_additions(
     alloc: Global,
     placement: Placement,
@@ -47,6 +49,7 @@ pub(crate) fn plan_additions(
     ensures refused { OnErr result (live.new.live ≡ live.old.live) }
     ensures kept { KeepEntries live.old.live live.old.entries live.new.entries }
     ensures slots { live.new.slots ≡ live.old.slots }
+    ensures noted { AreNotedIn arrangement.old arrangement.new plan.old plan.new }
 {
     plan_more(
         alloc,
@@ -86,6 +89,7 @@ pub(crate) fn plan_more(
     ensures refused { OnErr result (live.new.live ≡ live.old.live) }
     ensures kept { KeepEntries live.old.live live.old.entries live.new.entries }
     ensures slots { live.new.slots ≡ live.old.slots }
+    ensures noted { AreNotedIn arrangement.old arrangement.new plan.old plan.new }
 {
     let slots = arrangement.slots();
     let stand = slots - arrangement.free_count();
@@ -168,6 +172,7 @@ fn plan_piece(
     ensures refused { OnErr result (live.new.live ≡ live.old.live) }
     ensures kept { KeepEntries live.old.live live.old.entries live.new.entries }
     ensures slots { live.new.slots ≡ live.old.slots }
+    ensures noted { AreNotedIn arrangement.old arrangement.new plan.old plan.new }
 {
     let id = live.add(&ranked.piece, ranked.rank, ranked.result)?;
     match plan_moves(alloc, id, aim, coming, live, arrangement, plan) {
@@ -196,10 +201,21 @@ fn plan_moves(
     requires no_changes { plan.old.writes.changes.items ≡ [] }
     ensures plannable { OnOk result (IsPlannable live.now arrangement.new plan.new.writes) }
     ensures inserted { OnOk result (IsInserted live.now arrangement.old arrangement.new (record { aim = aim; coming = coming.now }) id plan.old plan.new) }
+    ensures noted { AreNotedIn arrangement.old arrangement.new plan.old plan.new }
 {
+    let first = plan.writes.moves.len();
     let moves = &mut plan.writes.moves;
-    let first = moves.len();
-    let insert = plan_insert(alloc, arrangement, live.index(), id, aim, coming, moves)?;
+    let undo = &mut plan.undo.moves;
+    let insert = plan_insert(
+        alloc,
+        arrangement,
+        live.index(),
+        id,
+        aim,
+        coming,
+        moves,
+        undo,
+    )?;
     let puts = puts_from(&plan.writes.moves, first);
     plan.count(insert, puts);
     Ok(())

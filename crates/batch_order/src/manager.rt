@@ -19,6 +19,7 @@ ghost use Rattle.batch_order.specs.Passed.{WayBackFrom};
 ghost use Rattle.commit_writes.specs.Bits.{bits_with};
 ghost use Rattle.commit_writes.specs.Serving.{HaveFreeBits};
 ghost use Rattle.batch_order.specs.Placing.{words_of};
+ghost use Rattle.batch_order.specs.Noting.{BeginsWithWords, IsUnnoted};
 ghost use Rattle.batch_order.specs.Planning.{all_writes};
 ghost use Rattle.batch_order.specs.Laws.{StepLeaves};
 ghost use Rattle.batch_order.specs.CarriedOut.{GoesForward, HasCarried, HasRoomBothWays, HasRoomLeft, IsServed, IsStuckBy, IsTried, StopsBy, ahead, done_of, finished};
@@ -28,6 +29,7 @@ use crate::held::Held;
 use crate::parts::parts_of;
 use crate::plan::{Plan, erase_all};
 use crate::planned_writes::PlannedWrite;
+use crate::stood::Stood;
 use crate::translation::{
     Translation, blank_translation, check_field, encoding, gives_bits, plan_words,
 };
@@ -59,8 +61,10 @@ pub struct Manager {
     pub(crate) rules: Store,
     pub(crate) live: LiveEntries,
     /// Where the entries of the set stand, before the writes of a commit under way; where a restart goes on with one,
-    /// those that the device showed.
-    pub(crate) arrangement: Arrangement,
+    /// those that the device showed. Only proofs know it.
+    pub(crate) arrangement: Stood,
+    /// Where the entries stand once the writes of the commit under way are made, and with none under way where they stand.
+    pub(crate) planned: Arrangement,
     pub(crate) held: Option<Held>,
 }
 
@@ -68,6 +72,7 @@ impl Model for Manager {
     ghost use Rattle.std.specs.Prelude.{length, option_map};
     ghost use Rattle.batch_order.specs.Managed.{Managed};
     ghost use Rattle.batch_order.specs.Kept.{IsManaged, bits_of, held_of, mode_of, state_of};
+    ghost use Rattle.batch_order.specs.Undoing.{StandsAt};
 
     ghost Value = { Managed };
 
@@ -81,7 +86,7 @@ impl Model for Manager {
       held = option_map (held_of m.translation m.arrangement m.rules.rules m.live.entries) m.held;
     } };
 
-    ghost invariant = { λ m. IsManaged m.translation m.rules m.live m.arrangement m.held };
+    ghost invariant = { λ m. IsManaged m.translation m.rules m.live m.arrangement m.held × StandsAt m.arrangement m.planned m.held };
 }
 
 impl Manager {
@@ -102,13 +107,15 @@ impl Manager {
         ensures fresh { IfOk result (λ manager. manager ≡ fresh slots mode placement) }
         ensures on_blank { IfOk result (λ manager. (device_slots : ℕ) → slots ≤ device_slots → IsOn device_slots [] manager) }
     {
+        let planned = Arrangement::new(alloc, slots)?;
         Ok(Manager {
             alloc,
             placement,
             translation: blank_translation(alloc, mode)?,
             rules: Store::new(alloc),
             live: LiveEntries::new(alloc, slots)?,
-            arrangement: Arrangement::new(alloc, slots)?,
+            arrangement: Stood::of(&planned),
+            planned,
             held: None,
         })
     }
@@ -244,14 +251,15 @@ impl Manager {
         // A batch has 12,288 commands at most, so the number fits.
         let _commands = batch.len();
         let need = self.rules.entries_added(encoding(&self.translation), batch) as u32;
-        let free = self.arrangement.free_count();
+        let free = self.planned.free_count();
         if need > free {
             return Err(Rejection::Slots { need, free });
         }
         Ok(())
     }
 
-    /// Plans the commit of a batch that is taken, on a copy of the arrangement. On want of memory all is as it was.
+    /// Plans the commit of a batch that is taken. The arrangement stands as the plan leads to then. On want of memory all
+    /// is as it was.
     fn plan(&mut self, batch: &Batch) -> Result<Done, AllocError>
         requires idle { self.old.held ≡ None }
         requires sound { batch_fault self.old.rules batch.now ≡ None }
@@ -262,28 +270,26 @@ impl Manager {
     {
         let mut plan = Plan::new(self.alloc);
         let bits = self.plan_words(batch, &mut plan)?;
+        let awaits = gives_bits(&self.translation, &bits);
         let parts = parts_of(self.alloc, &self.rules, &self.live, &bits, batch)?;
         let commands = batch.commands(self.alloc)?;
         self.rules.reserve(batch.len())?;
-        let mut arrangement = self.arrangement.try_copy(self.alloc)?;
-        let planned = plan_writes(
+        let ids = plan_writes(
             self.alloc,
             self.placement,
-            &self.translation,
+            &mut self.translation,
             &self.rules,
-            &self.arrangement,
             &parts,
             &mut self.live,
-            &mut arrangement,
+            &mut self.planned,
             &mut plan,
         )?;
-        erase_all(&mut arrangement, &parts.erased);
+        erase_all(&mut self.planned, &parts.erased);
         let counts = plan.counts();
-        let awaits = gives_bits(&self.translation, &bits);
         self.held = Some(Held {
             prepared: true,
             writes: plan.writes,
-            undo: planned.undo,
+            undo: plan.undo,
             made: 0,
             turned: None,
             awaits,
@@ -293,8 +299,8 @@ impl Manager {
             batch: commands,
             rewrites: parts.rewrites,
             erased: parts.erased,
-            ids: planned.ids,
-            arrangement,
+            ids,
+            arrangement: Stood::of(&self.planned),
             most_parts: plan.most_parts,
         });
         Ok(counts)
@@ -307,9 +313,11 @@ impl Manager {
         requires free { HaveFreeBits self.now.mode self.now.rules batch.now }
         requires empty { all_writes plan.old.writes ≡ [] }
         requires none { plan.old.words ≡ 0 }
+        requires unnoted { IsUnnoted plan.old.undo }
         ensures bits { IfOk result (λ bits. (coded_by bits ≡ self.now.mode) × (during_of bits ≡ bits_with self.now.mode self.now.rules batch.now self.now.bits)) }
         ensures writes { OnOk result (all_writes plan.new.writes ≡ map PlannedWrite.Tabled (words_of self.now.mode self.now.bits self.now.rules batch.now self.now.state)) }
         ensures no_changes { plan.new.writes.changes.items ≡ plan.old.writes.changes.items }
+        ensures begins { OnOk result (BeginsWithWords self.now.mode plan.new) }
         ensures words { OnOk result (plan.new.words ≡ length (all_writes plan.new.writes)) }
         ensures few { OnOk result (length (all_writes plan.new.writes) ≤ 2 * 2 ^ 16) }
         ensures most { plan.new.most ≡ plan.old.most }

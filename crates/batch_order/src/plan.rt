@@ -7,12 +7,14 @@ ghost use Rattle.commit_writes.specs.Planned.{IdEntries};
 ghost use Rattle.commit_writes.specs.PlannedBatch.{erase_write, erased_slots, rewrite_write};
 ghost use Rattle.batch_order.specs.ByParts.{insertion_parts};
 ghost use Rattle.batch_order.specs.Planning.{IsStanding, IsWithin, as_writes, all_writes};
+ghost use Rattle.batch_order.specs.Noting.{GainsAtHome, HasSameNotes, IsUnnoted, changed_ids, changes_back, put_at_home};
 
 use crate::Done;
 use crate::parts::CommitParts;
 use crate::planned_writes::{PlannedWrite, PlannedWrites};
+use crate::undoing::PlannedUndo;
 use commit_writes::Rewrite;
-use move_planner::Insert;
+use move_planner::{Insert, Moves};
 use placement::Move;
 use slot_order::MOST_SLOTS;
 use slot_pool::Arrangement;
@@ -23,6 +25,8 @@ use std::alloc::{AllocError, Global};
 #[derive(Drop)]
 pub(crate) struct Plan {
     pub(crate) writes: PlannedWrites,
+    /// What restores each of the writes.
+    pub(crate) undo: PlannedUndo,
     pub(crate) words: u32,
     pub(crate) most: u32,
     pub(crate) span: u32,
@@ -34,7 +38,9 @@ impl Plan {
     /// A plan of no writes.
     pub(crate) fn new(alloc: Global) -> Plan
         ensures writes { all_writes result.writes ≡ [] }
+        ensures no_moves { result.writes.moves ≡ [] }
         ensures no_changes { result.writes.changes.items ≡ [] }
+        ensures unnoted { IsUnnoted result.undo }
         ensures words { result.words ≡ 0 }
         ensures most { result.most ≡ 0 }
         ensures span { result.span ≡ 0 }
@@ -42,6 +48,7 @@ impl Plan {
     {
         Plan {
             writes: PlannedWrites::new(alloc),
+            undo: PlannedUndo::new(alloc),
             words: 0,
             most: 0,
             span: 0,
@@ -54,6 +61,7 @@ impl Plan {
     pub(crate) fn count(&mut self, insert: Insert, puts: u32)
         requires { 3 * puts < 2 ^ 32 }
         ensures writes { self.new.writes ≡ self.old.writes }
+        ensures undo { self.new.undo ≡ self.old.undo }
         ensures words { self.new.words ≡ self.old.words }
         ensures most { self.new.most ≡ max self.old.most insert.writes }
         ensures span { self.new.span ≡ max self.old.span insert.span }
@@ -81,7 +89,7 @@ impl Plan {
     }
 }
 
-/// Plans the writes behind the insertions, the new entries before the erases.
+/// Plans the writes behind the insertions, the new entries before the erases, and notes the id that each one's slot holds.
 pub(crate) fn plan_changes(
     parts: &CommitParts,
     arrangement: &Arrangement,
@@ -98,46 +106,58 @@ pub(crate) fn plan_changes(
     ensures most { OnOk result (plan.new.most ≡ plan.old.most) }
     ensures span { OnOk result (plan.new.span ≡ plan.old.span) }
     ensures most_parts { OnOk result (plan.new.most_parts ≡ plan.old.most_parts) }
+    ensures at_home { OnOk result (GainsAtHome arrangement.now (changed_ids parts.now.rewrites.items parts.now.erased.items) plan.old.writes.changes.items plan.new.writes.changes.items) }
+    ensures noted { OnOk result (plan.new.undo.changes ≡ plan.old.undo.changes ++ changes_back arrangement.now parts.now.rewrites.items parts.now.erased.items) }
+    ensures others { HasSameNotes plan.old plan.new }
 {
     let changes = &mut plan.writes.changes;
-    plan_rewrites(&parts.rewrites, arrangement, changes)?;
-    plan_erases(&parts.erased, arrangement, changes)?;
+    let undo = &mut plan.undo.changes;
+    plan_rewrites(&parts.rewrites, arrangement, changes, undo)?;
+    plan_erases(&parts.erased, arrangement, changes, undo)?;
     Ok(())
 }
 
-/// The write of each new entry to where its id stands.
+/// The write of each new entry to where its id stands, and what puts the id's own entry back.
 fn plan_rewrites(
     rewrites: &[Rewrite],
     arrangement: &Arrangement,
     writes: &mut Vec<PlannedWrite>,
+    undo: &mut Moves,
 ) -> Result<(), AllocError>
     requires few { length rewrites.now ≤ MOST_SLOTS }
     requires standing { AllByRecursion (λ rewrite. IsStanding arrangement.now rewrite.id) rewrites.now }
     requires within { AllByRecursion (IsWithin (length arrangement.now)) writes.old.items }
     ensures writes { OnOk result ((entries : IdEntries) → as_writes entries rewrites.now writes.new.items ≡ as_writes entries rewrites.now writes.old.items ++ map (rewrite_write arrangement.now) rewrites.now) }
     ensures within { OnOk result (AllByRecursion (IsWithin (length arrangement.now)) writes.new.items) }
+    ensures at_home { OnOk result (GainsAtHome arrangement.now (map (λ rewrite. rewrite.id) rewrites.now) writes.old.items writes.new.items) }
+    ensures noted { OnOk result (undo.new ≡ undo.old ++ map (λ rewrite. put_at_home arrangement.now rewrite.id) rewrites.now) }
 {
     for (place, rewrite) in rewrites.iter().enumerate() {
         let slot = arrangement.home(rewrite.id).unwrap();
         writes.push(PlannedWrite::Rewritten(slot, place as u32))?;
+        undo.push(Move::Put(slot, rewrite.id))?;
     }
     Ok(())
 }
 
-/// The erase of each id where it stands.
+/// The erase of each id where it stands, and what puts it back.
 fn plan_erases(
     ids: &[u32],
     arrangement: &Arrangement,
     writes: &mut Vec<PlannedWrite>,
+    undo: &mut Moves,
 ) -> Result<(), AllocError>
     requires standing { AllByRecursion (IsStanding arrangement.now) ids.now }
     requires within { AllByRecursion (IsWithin (length arrangement.now)) writes.old.items }
     ensures writes { OnOk result ((entries : IdEntries) → (rewrites : List Rewrite) → as_writes entries rewrites writes.new.items ≡ as_writes entries rewrites writes.old.items ++ map (erase_write arrangement.now) ids.now) }
     ensures within { OnOk result (AllByRecursion (IsWithin (length arrangement.now)) writes.new.items) }
+    ensures at_home { OnOk result (GainsAtHome arrangement.now ids.now writes.old.items writes.new.items) }
+    ensures noted { OnOk result (undo.new ≡ undo.old ++ map (put_at_home arrangement.now) ids.now) }
 {
     for id in ids {
         let slot = arrangement.home(*id).unwrap();
         writes.push(PlannedWrite::Moved(Move::Erase(slot)))?;
+        undo.push(Move::Put(slot, *id))?;
     }
     Ok(())
 }

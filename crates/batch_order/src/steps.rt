@@ -81,7 +81,7 @@ impl Manager {
                 }
                 match held.undo.get(held.made - 1) {
                     None => None,
-                    Some(planned) => Some(write_of(planned, &self.live, &held.rewrites)),
+                    Some(planned) => Some(write_of(&planned, &self.live, &held.rewrites)),
                 }
             }
         }
@@ -200,7 +200,7 @@ impl Manager {
             None => None,
             Some(held) => match held.undo.get(held.made) {
                 None => None,
-                Some(planned) => Some(write_of(planned, &self.live, &held.rewrites)),
+                Some(planned) => Some(write_of(&planned, &self.live, &held.rewrites)),
             },
         }
     }
@@ -232,14 +232,17 @@ impl Manager {
         }
     }
 
-    /// The plan that is held goes, and the ids of its new entries with it.
+    /// The plan that is held goes, and the ids of its new entries with it. The entries stand as before it.
     fn drop_plan(&mut self)
         requires { is_unwritten self.old.held ≡ true }
         ensures { self.new ≡ cancelled true self.old }
     {
         match self.held.take() {
             None => {}
-            Some(held) => forget_all(&mut self.live, held.ids),
+            Some(held) => {
+                held.undo.take_back(&mut self.planned);
+                forget_all(&mut self.live, held.ids);
+            }
         }
     }
 
@@ -317,6 +320,7 @@ impl Manager {
             None => Step::Idle,
             Some(held) => {
                 let undone = held.turned.unwrap_or(0) as u64;
+                held.undo.take_back(&mut self.planned);
                 forget_all(&mut self.live, held.ids);
                 Step::Reverted(undone)
             }

@@ -12,6 +12,7 @@ ghost use Rattle.commit_writes.specs.Shape.{bit_writes};
 ghost use Rattle.commit_writes.specs.Needed.{ranges_needed};
 ghost use Rattle.commit_writes.specs.Changes.{coded_by, during_of};
 ghost use Rattle.batch_order.specs.Kept.{bits_of, mode_of, needed_by, tables_of, translated_by};
+ghost use Rattle.batch_order.specs.Noting.{BeginsWithWords, IsUnnoted};
 ghost use Rattle.batch_order.specs.Planning.{all_writes, as_write, as_writes};
 
 use crate::plan::Plan;
@@ -92,11 +93,13 @@ pub(crate) fn plan_words(
     requires dst { IfSome translation.now (λ kept. live_count (ranges_in Field.Dst kept.bits) + length (ranges_needed Field.Dst kept.bits batch.now) ≤ field_bits) }
     requires empty { all_writes plan.old.writes ≡ [] }
     requires none { plan.old.words ≡ 0 }
+    requires unnoted { IsUnnoted plan.old.undo }
     ensures coded { IfOk result (λ bits. coded_by bits ≡ mode_of translation.now) }
     ensures during { IfOk result (λ bits. during_of bits ≡ needed_by translation.now batch.now) }
     ensures writes { OnOk result (all_writes plan.new.writes
         ≡ map PlannedWrite.Tabled (bit_writes (tables_of translation.now) (new_bits (bits_of translation.now) (needed_by translation.now batch.now)))) }
     ensures no_changes { plan.new.writes.changes.items ≡ plan.old.writes.changes.items }
+    ensures begins { OnOk result (BeginsWithWords (mode_of translation.now) plan.new) }
     ensures words { OnOk result (plan.new.words ≡ length (all_writes plan.new.writes)) }
     ensures few { OnOk result (length (all_writes plan.new.writes) ≤ 2 * 2 ^ 16) }
     ensures most { plan.new.most ≡ plan.old.most }

@@ -1,131 +1,132 @@
-//! The writes that take a plan back, planned before its first write goes out.
+//! The writes that take a plan back, noted while it is planned.
 //!
-//! What a slot holds was put there by a planned write, or stood there before the commit, as a move would have put it:
-//! so what restores it is such a write again, of a few bytes.
+//! What a slot held is noted with the move that changes it, what gets a new entry or goes is known by its id, and what a
+//! table's word was by the tables as they stand. So what restores each write is a planned write again, of a few bytes, and
+//! no slot is looked at but those that the plan writes.
 
-ghost use Rattle.std.specs.Prelude.{◌≡◌, true, ◌<◌, IfOk, OnOk, None, Some, List, length, get_or, slice_set};
+ghost use Rattle.std.specs.Prelude.{◌≡◌, ◌≤◌, [], OnOk, IsTrue, length, map, slice_get, vec_capacity};
 ghost use Rattle.std.specs.List.{AllByRecursion};
+ghost use Rattle.rule_store.specs.declared.Mode.TheVariants as modes;
 ghost use Rattle.tcam_device.specs.Insertion.{is_table_write};
-ghost use Rattle.tcam_device.specs.State.{apply};
-ghost use Rattle.commit_writes.specs.declared.Rewrite.{Rewrite};
-ghost use Rattle.commit_writes.specs.Planned.{IdEntries, contents};
-ghost use Rattle.commit_writes.specs.Undo.{restoring};
-ghost use Rattle.batch_order.specs.Planning.{IsWithin, all_writes};
-ghost use Rattle.batch_order.specs.Undoing.{AreRestoring, Each, IsPut, Replaces, tables_then};
+ghost use Rattle.tcam_device.specs.State.{state_after};
+ghost use Rattle.commit_writes.specs.Undo.{restorings};
+ghost use Rattle.batch_order.specs.Kept.{mode_of, tables_of};
+ghost use Rattle.batch_order.specs.Undoing.{unmade};
 
-use crate::planned_writes::{PlannedWrite, PlannedWrites};
+use crate::planned_writes::PlannedWrite;
 use crate::translation::Translation;
 use commit_writes::{TableWord, Tables};
-use placement::Move;
+use move_planner::Moves;
 use slot_pool::Arrangement;
 use std::alloc::{AllocError, Global};
 
-/// What restores each write of a plan, in the plan's order: the write that puts back what its slot or table word holds
-/// before it.
-pub(crate) fn plan_undo(
-    alloc: Global,
-    translation: &Option<Translation>,
-    arrangement: &Arrangement,
-    writes: &PlannedWrites,
-) -> Result<Vec<PlannedWrite>, AllocError>
-    requires within { AllByRecursion (IsWithin (length arrangement.now)) (all_writes writes.now) }
-    ensures { IfOk result (λ undo. AreRestoring translation.now arrangement.now (all_writes writes.now) undo.items) }
-{
-    let mut slots = contents_of(alloc, arrangement)?;
-    let mut tables = None;
-    let mut undo = Vec::with_capacity(alloc, writes.len())?;
-    for place in 0..writes.len() {
-        let write = writes.get(place).unwrap();
-        let before = replace(alloc, translation, &write, &mut slots, &mut tables)?;
-        undo.push_reserved(before);
-    }
-    Ok(undo)
+/// What restores each write of a plan, in the plan's order: the words of the tables, then what the slots of the moves
+/// held, and last what those held that get a new entry or are erased.
+#[derive(Drop)]
+pub(crate) struct PlannedUndo {
+    pub(crate) words: Vec<TableWord>,
+    pub(crate) moves: Moves,
+    pub(crate) changes: Moves,
 }
 
-/// What each slot holds before a commit, as the move that puts it there.
-fn contents_of(alloc: Global, arrangement: &Arrangement) -> Result<Vec<PlannedWrite>, AllocError>
-    ensures size { IfOk result (λ slots. length slots.items ≡ length arrangement.now) }
-    ensures each { IfOk result (λ slots. (entries : IdEntries) → (rewrites : List Rewrite) → Each (IsPut entries rewrites (contents entries arrangement.now)) slots.items) }
-{
-    let count = arrangement.slots();
-    let mut contents = Vec::with_capacity(alloc, count as usize)?;
-    for slot in 0..count {
-        let put = put_back(arrangement, slot);
-        contents.push_reserved(put);
-    }
-    Ok(contents)
-}
+impl PlannedUndo {
+    ghost use Rattle.std.specs.Prelude.{◌≡◌, [], slice_get};
+    ghost use Rattle.slot_pool.specs.Arrangement.{Slots};
+    ghost use Rattle.batch_order.specs.Noting.{all_undo};
+    ghost use Rattle.batch_order.specs.Undoing.{TakesBack};
 
-/// The move that puts into a slot what it holds.
-fn put_back(arrangement: &Arrangement, slot: u32) -> PlannedWrite
-    requires { slot < length arrangement.now }
-    ensures { (entries : IdEntries) → (rewrites : List Rewrite) → IsPut entries rewrites (contents entries arrangement.now) slot result }
-{
-    match arrangement.at(slot) {
-        None => PlannedWrite::Moved(Move::Erase(slot)),
-        Some(id) => PlannedWrite::Moved(Move::Put(slot, id)),
+    /// What restores no write.
+    pub(crate) fn new(alloc: Global) -> PlannedUndo
+        ensures none { all_undo result ≡ [] }
+        ensures no_words { result.words.items ≡ [] }
+        ensures no_moves { result.moves ≡ [] }
+        ensures no_changes { result.changes ≡ [] }
+    {
+        PlannedUndo {
+            words: Vec::new(alloc),
+            moves: Moves::new(alloc),
+            changes: Moves::new(alloc),
+        }
     }
-}
 
-/// A planned write is made. Answers the one that puts back what its slot or table word held.
-fn replace(
-    alloc: Global,
-    translation: &Option<Translation>,
-    write: &PlannedWrite,
-    slots: &mut Vec<PlannedWrite>,
-    tables: &mut Option<Tables>,
-) -> Result<PlannedWrite, AllocError>
-    requires { IsWithin (length slots.old.items) write.now }
-    ensures replaced { IfOk result (λ before. Replaces translation.now write.now before slots.old.items slots.new.items tables.old tables.new) }
-    ensures size { length slots.new.items ≡ length slots.old.items }
-{
-    match write {
-        PlannedWrite::Tabled(word) => replace_word(alloc, translation, word, tables),
-        PlannedWrite::Moved(Move::Put(slot, _)) => Ok(replace_slot(slots, *slot, write)),
-        PlannedWrite::Moved(Move::Erase(slot)) => Ok(replace_slot(slots, *slot, write)),
-        PlannedWrite::Rewritten(slot, _) => Ok(replace_slot(slots, *slot, write)),
+    /// What restores the write at a place, if so many are there.
+    pub(crate) fn get(&self, place: usize) -> Option<PlannedWrite>
+        ensures { result ≡ slice_get (all_undo self.now) place }
+    {
+        if place < self.words.len() {
+            return Some(PlannedWrite::Tabled(self.words[place]));
+        }
+        let place = place - self.words.len();
+        let moves = self.moves.len() as usize;
+        if place < moves {
+            return Some(PlannedWrite::Moved(self.moves.at(place as u64)));
+        }
+        moved(&self.changes, place - moves)
+    }
+
+    /// Takes an arrangement back that stands as the plan leads to: as it stood before the plan.
+    pub(crate) fn take_back(&self, arrangement: &mut Arrangement)
+        requires { (before : Slots) × TakesBack before arrangement.old self.now }
+        ensures { (before : Slots) → TakesBack before arrangement.old self.now → arrangement.new ≡ before }
+    {
+        self.changes.take_back(arrangement);
+        self.moves.take_back(arrangement);
     }
 }
 
-/// A slot gets what a planned write puts there. Answers the one that put what it held.
-fn replace_slot(slots: &mut Vec<PlannedWrite>, slot: u32, write: &PlannedWrite) -> PlannedWrite
-    requires { slot < length slots.old.items }
-    ensures before { result ≡ get_or slots.old.items slot result }
-    ensures set { slots.new.items ≡ slice_set slots.old.items slot write.now }
+/// The move at a place, as a planned write, if so many are there.
+fn moved(moves: &Moves, place: usize) -> Option<PlannedWrite>
+    ensures { result ≡ slice_get (map PlannedWrite.Moved moves.now) place }
 {
-    let before = slots[slot as usize];
-    slots[slot as usize] = *write;
-    before
+    if place < moves.len() as usize {
+        Some(PlannedWrite::Moved(moves.at(place as u64)))
+    } else {
+        None
+    }
 }
 
-/// A table gets a word, on a copy that is taken at the first one. Answers the word that puts back what its port had.
-fn replace_word(
-    alloc: Global,
-    translation: &Option<Translation>,
-    word: &TableWord,
-    tables: &mut Option<Tables>,
-) -> Result<PlannedWrite, AllocError>
-    ensures before { IfOk result (λ before. before ≡ PlannedWrite.Tabled (restoring (tables_then translation.now tables.old) word.now)) }
-    ensures set { OnOk result (tables.new ≡ Some (apply (tables_then translation.now tables.old) word.now)) }
-    ensures is_word { OnOk result (is_table_write word.now ≡ true) }
+/// Notes what the words of a plan replace, by the tables that a manager keeps, which are as they were then. By covers
+/// there are no words, and no tables.
+pub(crate) fn note_words(
+    translation: &mut Option<Translation>,
+    words: &[TableWord],
+    undo: &mut Vec<TableWord>,
+) -> Result<(), AllocError>
+    requires covers { mode_of translation.old ≡ modes.Cover → words.now ≡ [] }
+    requires empty { undo.old.items ≡ [] }
+    ensures noted { OnOk result (undo.new.items ≡ restorings (tables_of translation.old) words.now) }
+    ensures to_tables { OnOk result (AllByRecursion (λ word. IsTrue (is_table_write word)) words.now) }
+    ensures same { translation.new ≡ translation.old }
 {
-    match tables {
-        Some(copy) => Ok(PlannedWrite::Tabled(copy.replace(*word))),
-        None => {
-            let mut copy = copy_tables(alloc, translation)?;
-            let before = copy.replace(*word);
-            *tables = Some(copy);
-            Ok(PlannedWrite::Tabled(before))
+    match translation {
+        None => Ok(()),
+        Some(kept) => {
+            undo.reserve(words.len())?;
+            make_words(&mut kept.tables, words, undo);
+            unmake_words(&mut kept.tables, undo.as_slice());
+            Ok(())
         }
     }
 }
 
-/// A copy of the tables before a commit: those of a blank device by covers.
-fn copy_tables(alloc: Global, translation: &Option<Translation>) -> Result<Tables, AllocError>
-    ensures { IfOk result (λ copy. copy ≡ tables_then translation.now None) }
+/// The tables get some words. What puts back each is noted, in their order.
+fn make_words(tables: &mut Tables, words: &[TableWord], undo: &mut Vec<TableWord>)
+    requires empty { undo.old.items ≡ [] }
+    requires room { length words.now ≤ vec_capacity undo.old }
+    ensures made { tables.new ≡ state_after tables.old words.now }
+    ensures noted { undo.new.items ≡ restorings tables.old words.now }
+    ensures to_tables { AllByRecursion (λ word. IsTrue (is_table_write word)) words.now }
 {
-    match translation {
-        None => Tables::new(alloc),
-        Some(kept) => kept.tables.try_copy(alloc),
+    for word in words {
+        undo.push_reserved(tables.replace(*word));
+    }
+}
+
+/// The tables get some words, the last one first.
+fn unmake_words(tables: &mut Tables, undo: &[TableWord])
+    ensures { tables.new ≡ unmade tables.old undo.now }
+{
+    for place in (0..undo.len()).rev() {
+        tables.set(undo[place]);
     }
 }

@@ -7,6 +7,7 @@ pub mod Inserted
 pub mod Landings
 pub mod Marks
 pub mod Near
+pub mod Noted
 pub mod Outcomes
 pub mod Passed
 pub mod Placed

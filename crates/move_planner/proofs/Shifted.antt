@@ -1,5 +1,5 @@
 -- What the moves along the last members of a chain have left.
-use Rattle.std.proofs.Common.{◌≡◌, ◌≢◌, ℕ, suc, ◌+◌, ◌<◌, None, Some, Option, List, [], ◌∷◌, ◌++◌, length, set, Contains, arith, refl, sym, ◌∙◌, subst, ap, length-set, length-drop, get_or-drop, drop, append_assoc}
+use Rattle.std.proofs.Common.{◌≡◌, ◌≢◌, ℕ, suc, ◌+◌, ◌<◌, None, Some, Option, List, [], ◌∷◌, ◌++◌, length, set, Contains, arith, refl, sym, ◌∙◌, subst, ap, length-set, length-drop, get_or-drop, drop, append-nil, append_assoc}
 use Rattle.std.specs.Prelude.{slice_index_or, is_none, cond}
 use Rattle.std.proofs.Math.Seq.{drop-cons, drop-append_seam}
 use Rattle.std.proofs.lemmas.List.{get_or_default}
@@ -107,6 +107,14 @@ pub record AreShifted (slots : Slots) (plan : List Move) (free : ℕ) (members :
   pub gained : plan' ≡ plan ++ moves_along slots free members
   pub after : slots' ≡ after_moves slots (moves_along slots free members)
   pub shifted : Shifted slots free members slots'
+
+-- along no members nothing moves
+pub shifted_none : (slots : Slots) (plan : List Move) (free : ℕ) → AreShifted slots plan free [] slots plan
+shifted_none slots plan free = record {
+  gained = sym (append-nil plan);
+  after = refl;
+  shifted = record { size = refl; kept = λ at away new. refl; moved = refl };
+}
 
 -- a member, and those after it
 pub record NextMember (slots : Slots) (free : ℕ) (members : List ℕ) (i n from : ℕ) : Type 0 where

@@ -1,3 +1,4 @@
 pub mod Made
 pub mod Steps
 pub mod Boundary
+pub mod Noted

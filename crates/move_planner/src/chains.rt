@@ -5,6 +5,7 @@ ghost use Rattle.slot_pool.specs.Arrangement.{HasTwin, passes};
 ghost use Rattle.placement.specs.Live.{is_above, is_live};
 ghost use Rattle.placement.specs.Placement.{IsInOrder, StopsBelow, StopsAbove, after_moves, moves_along};
 ghost use Rattle.placement.specs.Insertion.{AreMade, free_slots};
+ghost use Rattle.move_planner.specs.Noted.{AreNoted};
 ghost use Rattle.move_planner.specs.Steps.{AllLive};
 ghost use Rattle.placement.specs.Ready.{StepsDown, StepsUp, CanShift};
 
@@ -41,19 +42,25 @@ impl Chain {
 
     /// Moves the last member to the free slot, then each earlier one over the slot of the one
     /// after it. After a refusal the moves that the plan gained are made.
-    pub(crate) fn shift(&self, slots: &mut Arrangement, plan: &mut Moves) -> Result<(), AllocError>
+    pub(crate) fn shift(
+        &self,
+        slots: &mut Arrangement,
+        plan: &mut Moves,
+        undo: &mut Moves,
+    ) -> Result<(), AllocError>
         requires { CanShift slots.old self.now.free self.now.members.items }
         ensures plan { OnOk result (plan.new ≡ plan.old ++ moves_along slots.old self.now.free self.now.members.items) }
         ensures slots { OnOk result (slots.new ≡ after_moves slots.old (moves_along slots.old self.now.free self.now.members.items)) }
         ensures twin { OnOk result (HasTwin slots.new (slice_index_or self.now.members.items 0 self.now.free)) }
         ensures free { OnOk result (free_slots slots.new + 1 ≡ free_slots slots.old) }
         ensures made { OnErr result (AreMade slots.old slots.new plan.old plan.new) }
+        ensures noted { AreNoted slots.old slots.new plan.old plan.new undo.old undo.new }
     {
         let mut to = self.free;
         for i in (0..self.members.len()).rev() {
             let from = self.members[i];
             if let Some(id) = slots.at(from) {
-                plan.make(slots, Move::Put(to, id))?;
+                plan.make(slots, undo, Move::Put(to, id))?;
             }
             to = from;
         }

@@ -6,6 +6,7 @@ ghost use Rattle.placement.specs.Placement.{gap_start, gap_end, IsInOrder};
 ghost use Rattle.placement.specs.Insertion.{AreMade};
 ghost use Rattle.placement.specs.Ready.{CanShift, IsReady};
 ghost use Rattle.move_planner.specs.Made.{moves_made};
+ghost use Rattle.move_planner.specs.Noted.{AreNoted};
 ghost use Rattle.move_planner.specs.Steps.{IsShiftedOut, FindsEarly, FindsLate, FindsPasser, IsUnderway, MayPass, IsFurther, UndoesCrossing, cleared};
 
 use crate::Moves;
@@ -36,6 +37,7 @@ pub(crate) fn uncross(
     slots: &mut Arrangement,
     index: &Index,
     plan: &mut Moves,
+    undo: &mut Moves,
     id: u32,
     gap: Gap,
 ) -> Result<(), AllocError>
@@ -45,6 +47,7 @@ pub(crate) fn uncross(
     requires crossed { gap_end (is_above index.now.live) slots.old id < gap_start (is_above index.now.live) slots.old id }
     ensures uncrossed { OnOk result (UndoesCrossing index.now id slots.old slots.new plan.old plan.new) }
     ensures made { OnErr result (AreMade slots.old slots.new plan.old plan.new) }
+    ensures noted { AreNoted slots.old slots.new plan.old plan.new undo.old undo.new }
 {
     let sides = find_sides(alloc, slots, index, id, gap)?;
     let boundary = best_boundary(slots, &sides);
@@ -53,7 +56,7 @@ pub(crate) fn uncross(
         low: boundary,
         high: boundary,
     };
-    while let Some(next) = pass_one(alloc, slots, index, plan, &sides, cut)? {
+    while let Some(next) = pass_one(alloc, slots, index, plan, undo, &sides, cut)? {
         cut = next;
     }
     Ok(())
@@ -66,6 +69,7 @@ fn pass_one(
     slots: &mut Arrangement,
     index: &Index,
     plan: &mut Moves,
+    undo: &mut Moves,
     sides: &Sides,
     cut: Cut,
 ) -> Result<Option<Cut>, AllocError>
@@ -74,11 +78,12 @@ fn pass_one(
         → MayPass index.now id behind before (moves_made slots.old plan.old) (moves_made slots.new plan.new) sides.now cut next) }
     ensures further { IfOk result (IsFurther sides.now cut) }
     ensures made { OnErr result (AreMade slots.old slots.new plan.old plan.new) }
+    ensures noted { AreNoted slots.old slots.new plan.old plan.new undo.old undo.new }
 {
     let Some(chain) = passer(alloc, slots, index, sides, cut)? else {
         return Ok(None);
     };
-    turn(slots, plan, &chain)?;
+    turn(slots, plan, undo, &chain)?;
     Ok(Some(cleared(cut, chain.first())))
 }
 
@@ -139,11 +144,17 @@ fn cleared(cut: Cut, slot: u32) -> Cut
 }
 
 /// Moves along a chain, and erases its first slot.
-fn turn(slots: &mut Arrangement, plan: &mut Moves, chain: &Chain) -> Result<(), AllocError>
+fn turn(
+    slots: &mut Arrangement,
+    plan: &mut Moves,
+    undo: &mut Moves,
+    chain: &Chain,
+) -> Result<(), AllocError>
     requires { CanShift slots.old chain.now.free chain.now.members.items }
     ensures turned { OnOk result (IsShiftedOut slots.old slots.new plan.old plan.new chain.now) }
     ensures made { OnErr result (AreMade slots.old slots.new plan.old plan.new) }
+    ensures noted { AreNoted slots.old slots.new plan.old plan.new undo.old undo.new }
 {
-    chain.shift(slots, plan)?;
-    plan.make(slots, Move::Erase(chain.first()))
+    chain.shift(slots, plan, undo)?;
+    plan.make(slots, undo, Move::Erase(chain.first()))
 }

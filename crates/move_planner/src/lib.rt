@@ -59,6 +59,10 @@
 //! move 2  /24  /20  /16  /8    .     the /20 is put over slot 1
 //! ```
 //!
+//! # What is noted
+//! What each move's slot held before it goes into a second list (`undo`), as the move that puts it back. So the moves can be
+//! taken back, the last one first, also those of an insertion that ended for want of memory (`Moves::take_back`).
+//!
 //! # What it costs
 //! A chain's entries overlap one after the other at falling priorities. So with the new entry it has at most as many
 //! members as the longest such chain among the live pieces has, `m`. Each entry that passes the boundary takes at most
@@ -127,11 +131,13 @@
 //!   and 164 µs so (two runs of each). The price is `is_above` of two ids in `overlap_index`.
 #![tactic(auto)]
 
-ghost use Rattle.std.specs.Prelude.{◌≡◌, ℕ, ◌+◌, ◌*◌, ◌^◌, ◌<◌, ◌≤◌, ◌++◌, ◌∷◌, [], List, Bool, IsTrue, IfOk, OnOk, OnErr, length, take, slice_index_or};
+ghost use Rattle.std.specs.Prelude.{◌≡◌, ℕ, ◌+◌, ◌*◌, ◌^◌, ◌<◌, ◌≤◌, ◌++◌, ◌∷◌, [], List, Bool, Option, IsTrue, IfOk, OnOk, OnErr, length, take, slice_index_or};
+ghost use Rattle.std.specs.List.{AllByRecursion};
 ghost use Rattle.placement.specs.Live.{is_live, is_above, rank_in};
 ghost use Rattle.slot_moves.specs.Cuts.{wrong_side, HasRoomNear};
 ghost use Rattle.placement.specs.Placement.{AreSides, IsCut, IsPlacement, IsInOrder, first_lower, last_upper, gap_start, gap_end, span_of, after_move, after_moves};
 ghost use Rattle.placement.specs.Insertion.{IsLive, IsOther, StandOnce, BoundsLiveChains, AreMade, free_slots, moves_since};
+ghost use Rattle.move_planner.specs.Noted.{AreNoted, IsInside, as_held, back_of, backs_of, taken_back};
 ghost use Rattle.move_planner.specs.Steps.{CanMake, UndoesCrossing};
 ghost use Rattle.placement.specs.Ready.{IsReady};
 
@@ -215,27 +221,92 @@ impl Moves {
         Ok(self.moves.push(step)?)
     }
 
-    /// Makes a move, as the last of the plan and in the arrangement. After a refusal both are as
-    /// before.
-    pub(crate) fn make(&mut self, slots: &mut Arrangement, step: Move) -> Result<(), AllocError>
+    /// Makes all moves in an arrangement, the last one first, whatever its slots hold. Where they are the undo moves of a
+    /// plan whose moves were made in it, it is then as it was before the plan.
+    pub fn take_back(&self, slots: &mut Arrangement)
+        requires { AllByRecursion (IsInside (length slots.old)) self.now }
+        ensures exact { slots.new ≡ taken_back slots.old self.now }
+        ensures back { (before : List (Option ℕ)) (moves : List Move) → slots.old ≡ after_moves before moves → self.now ≡ backs_of before moves → slots.new ≡ before }
+    {
+        for place in (0..self.len()).rev() {
+            make_anyhow(slots, self.at(place));
+        }
+    }
+
+    /// Makes a move, as the last of the plan and in the arrangement, and notes what its slot held as the
+    /// last of the undo moves. After a refusal all three are as before.
+    pub(crate) fn make(
+        &mut self,
+        slots: &mut Arrangement,
+        undo: &mut Moves,
+        step: Move,
+    ) -> Result<(), AllocError>
         requires { CanMake slots.old step }
         ensures plan { OnOk result (self.new ≡ self.old ++ step ∷ []) }
         ensures slots { OnOk result (slots.new ≡ after_move slots.old step) }
+        ensures noted { AreNoted slots.old slots.new self.old self.new undo.old undo.new }
         ensures same_plan { OnErr result (self.new ≡ self.old) }
         ensures same_slots { OnErr result (slots.new ≡ slots.old) }
     {
-        self.push(step)?;
-        match step {
-            Move::Put(slot, id) => {
-                if slots.at(slot).is_none() {
-                    slots.put(slot, id);
-                } else {
-                    slots.over(slot, id);
-                }
-            }
-            Move::Erase(slot) => slots.erase(slot),
-        }
+        // Room comes first: once one list is longer, nothing can fail.
+        self.moves.reserve(1)?;
+        undo.moves.reserve(1)?;
+        self.moves.push_reserved(step);
+        undo.moves.push_reserved(back_of(slots, &step));
+        make_in(slots, step);
         Ok(())
+    }
+}
+
+/// Makes a move in an arrangement, over nothing or over an id that stands in another slot too.
+fn make_in(slots: &mut Arrangement, step: Move)
+    requires { CanMake slots.old step }
+    ensures { slots.new ≡ after_move slots.old step }
+{
+    match step {
+        Move::Put(slot, id) => {
+            if slots.at(slot).is_none() {
+                slots.put(slot, id);
+            } else {
+                slots.over(slot, id);
+            }
+        }
+        Move::Erase(slot) => slots.erase(slot),
+    }
+}
+
+/// Makes a move in an arrangement, whatever its slot holds.
+fn make_anyhow(slots: &mut Arrangement, step: Move)
+    requires { IsInside (length slots.old) step }
+    ensures { slots.new ≡ after_move slots.old step }
+{
+    match step {
+        Move::Put(slot, id) => {
+            slots.erase(slot);
+            slots.put(slot, id);
+        }
+        Move::Erase(slot) => slots.erase(slot),
+    }
+}
+
+/// The move that puts back what a move's slot holds.
+fn back_of(slots: &Arrangement, step: &Move) -> Move
+    requires { CanMake slots.now step.now }
+    ensures { result ≡ back_of slots.now step.now }
+{
+    match step {
+        Move::Put(slot, _) => as_held(*slot, slots.at(*slot)),
+        Move::Erase(slot) => as_held(*slot, slots.at(*slot)),
+    }
+}
+
+/// The move that puts into a slot what is held there.
+fn as_held(slot: u32, held: Option<u32>) -> Move
+    ensures { result ≡ as_held slot held }
+{
+    match held {
+        None => Move::Erase(slot),
+        Some(id) => Move::Put(slot, id),
     }
 }
 
@@ -244,12 +315,14 @@ impl Moves {
 ///
 /// `slots` has at most 4,096 slots, of which one is free. `id` is live in `index` and stands in no slot; every other
 /// live id stands in exactly one, and all in order. The plan gains the moves, each of which leaves the arrangement in
-/// order, and at the end every live id stands in exactly one slot. The answer is the number of the moves and how far
-/// the last upper entry stood past the first lower one, 0 where nothing crossed. With `m` a bound on the chains of live
-/// pieces there are at most `m` moves for each slot of that span and `m` more (`bound`), and at most `m` for each entry
-/// on the wrong side of any boundary with room, and `m` more (`cut`). The boundary that entries pass has no more of
-/// them than the span has slots (`parted`), and no other moves are a placement of the id (`alone`). The one refusal is
-/// want of memory: then the arrangement is the old one after the moves that the plan gained.
+/// order, and at the end every live id stands in exactly one slot. The undo moves gain, in the same order, what puts
+/// back what each move's slot held before it (`noted`), so that the moves can be taken back, the last one first. The
+/// answer is the number of the moves and how far the last upper entry stood past the first lower one, 0 where nothing
+/// crossed. With `m` a bound on the chains of live pieces there are at most `m` moves for each slot of that span and
+/// `m` more (`bound`), and at most `m` for each entry on the wrong side of any boundary with room, and `m` more
+/// (`cut`). The boundary that entries pass has no more of them than the span has slots (`parted`), and no other moves
+/// are a placement of the id (`alone`). The one refusal is want of memory: then the arrangement is the old one after
+/// the moves that the plan gained, and these are noted too.
 ///
 /// Source: D. Shah and P. Gupta, "Fast Updating Algorithms for TCAMs", IEEE Micro 21(1), 2001; the cut is our own.
 pub fn plan_insert(
@@ -260,6 +333,7 @@ pub fn plan_insert(
     aim: Aim,
     coming: &[Rank],
     plan: &mut Moves,
+    undo: &mut Moves,
 ) -> Result<Insert, AllocError>
     requires few { length slots.old ≤ MOST_SLOTS }
     requires coming { length coming.now ≤ MOST_SLOTS }
@@ -269,6 +343,7 @@ pub fn plan_insert(
     requires order { IsInOrder (is_above index.now.live) slots.old }
     ensures plan { plan.new ≡ plan.old ++ moves_since plan.old plan.new }
     ensures slots { slots.new ≡ after_moves slots.old (moves_since plan.old plan.new) }
+    ensures noted { AreNoted slots.old slots.new plan.old plan.new undo.old undo.new }
     ensures placement { OnOk result (IsPlacement (is_above index.now.live) (rank_in index.now.live) (record { aim = aim; coming = coming.now }) id slots.old (moves_since plan.old plan.new)) }
     ensures writes { IfOk result (λ insert. insert.writes ≡ length (moves_since plan.old plan.new)) }
     ensures span { IfOk result (λ insert. insert.span ≡ span_of (is_above index.now.live) slots.old id) }
@@ -292,8 +367,8 @@ pub fn plan_insert(
     let before = plan.len();
     let gap = find_gap(slots, index, id);
     let span = gap.span();
-    let gap = clear_gap(alloc, slots, index, plan, id, gap)?;
-    place(alloc, slots, index, plan, id, aim, coming, gap)?;
+    let gap = clear_gap(alloc, slots, index, plan, undo, id, gap)?;
+    place(alloc, slots, index, plan, undo, id, aim, coming, gap)?;
     let writes = (plan.len() - before) as u32;
     Ok(Insert { writes, span })
 }
@@ -305,6 +380,7 @@ fn clear_gap(
     slots: &mut Arrangement,
     index: &Index,
     plan: &mut Moves,
+    undo: &mut Moves,
     id: u32,
     gap: Gap,
 ) -> Result<Gap, AllocError>
@@ -319,10 +395,11 @@ fn clear_gap(
     ensures start { IfOk result (λ now. now.start ≡ gap_start (is_above index.now.live) slots.new id) }
     ensures end { IfOk result (λ now. now.end ≡ gap_end (is_above index.now.live) slots.new id) }
     ensures made { OnErr result (AreMade slots.old slots.new plan.old plan.new) }
+    ensures noted { AreNoted slots.old slots.new plan.old plan.new undo.old undo.new }
 {
     if gap.start <= gap.end {
         return Ok(gap);
     }
-    uncross(alloc, slots, index, plan, id, gap)?;
+    uncross(alloc, slots, index, plan, undo, id, gap)?;
     Ok(find_gap(slots, index, id))
 }

@@ -4,6 +4,7 @@ ghost use Rattle.placement.specs.Live.{is_above};
 ghost use Rattle.placement.specs.Placement.{first_lower, last_upper, gap_start, gap_end};
 ghost use Rattle.placement.specs.Insertion.{AreMade};
 ghost use Rattle.placement.specs.Ready.{IsReady};
+ghost use Rattle.move_planner.specs.Noted.{AreNoted};
 ghost use Rattle.move_planner.specs.Steps.{IsFull, IsPlaced, IsWay, ends_down, ends_up};
 
 use crate::Moves;
@@ -26,6 +27,7 @@ pub(crate) fn place(
     slots: &mut Arrangement,
     index: &Index,
     plan: &mut Moves,
+    undo: &mut Moves,
     id: u32,
     aim: Aim,
     coming: &[Rank],
@@ -40,14 +42,15 @@ pub(crate) fn place(
     requires uncrossed { gap_start (is_above index.now.live) slots.old id ≤ gap_end (is_above index.now.live) slots.old id }
     ensures placed { OnOk result (IsPlaced index.now (record { aim = aim; coming = coming.now }) id slots.old slots.new plan.old plan.new) }
     ensures made { OnErr result (AreMade slots.old slots.new plan.old plan.new) }
+    ensures noted { AreNoted slots.old slots.new plan.old plan.new undo.old undo.new }
 {
     if let Some(slot) = choose(slots, gap.start, gap.end, aim) {
-        return plan.make(slots, Move::Put(slot, id));
+        return plan.make(slots, undo, Move::Put(slot, id));
     }
     let chain = way(alloc, slots, index, id, gap)?;
     let chain = landed(slots, index, aim, coming, chain);
-    chain.shift(slots, plan)?;
-    plan.make(slots, Move::Put(chain.first(), id))
+    chain.shift(slots, plan, undo)?;
+    plan.make(slots, undo, Move::Put(chain.first(), id))
 }
 
 /// The chain that makes way for a new id whose gap has no free slot: the shorter of that down from its

@@ -41,7 +41,7 @@ impl Requested {
         }
     }
 
-    /// A strict command joins the batch, or what is asked for beside it. `Full` comes exactly where 4,096 changes wait;
+    /// A strict command joins the batch, or what is asked for beside it. `Full` comes exactly where 4,096 changes wait or more;
     /// after a refusal all is as before.
     pub fn push(&mut self, command: Command, batch: &mut Batch) -> Result<(), PushFault>
         ensures pushed { OnOk result ((batch.new ≡ batch_with batch.old self.old command) × (self.new ≡ asked_with self.old command)) }
@@ -90,6 +90,7 @@ impl Requested {
             Err(_) => Err(PushFault::Memory),
         }
     }
+
     /// The batch that what is asked for comes to over a set of 4,096 rules at most; something is. It is sound over the set,
     /// and fails as `settle` and `settle_all` do.
     pub fn settle(&self, alloc: Global, rules: &Store) -> Result<Batch, SettleFault>

@@ -41,7 +41,8 @@ impl Requests {
         }
     }
 
-    /// Strict commands as requests, in their order: 4,096 of them at most. With no more it fails only for want of memory.
+    /// Strict commands as requests, in their order: 4,096 of them at most. Where there are more the answer is as for want of
+    /// memory.
     pub fn of_batch(alloc: Global, batch: &Batch) -> Result<Requests, AllocError>
         ensures { IfOk result (λ requests. requests ≡ map Request.Strict batch.now) }
     {

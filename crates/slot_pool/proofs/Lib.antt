@@ -1,5 +1,4 @@
 pub mod Bits
-pub mod CopyCounts
 mod Examples
 pub mod Finds
 pub mod LeastSlots
@@ -7,4 +6,5 @@ pub mod Places
 pub mod Rows
 pub mod Scan
 pub mod Searches
+pub mod SlotSums
 pub mod WordSearch

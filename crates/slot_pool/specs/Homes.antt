@@ -1,5 +1,5 @@
--- The least slot of each id, and how many slots hold it, kept beside the slots.
-use Rattle.std.specs.Prelude.{◌≡◌, ◌≢◌, ℕ, ◌<◌, ◌≤◌, ◌==◌, List, Option, Some, None, length, min, count_by, slice_index_or}
+-- The least slot of each id, and the sum of the slots that hold it, kept beside the slots.
+use Rattle.std.specs.Prelude.{◌≡◌, ◌≢◌, ℕ, suc, ◌+◌, ◌<◌, ◌≤◌, ◌==◌, List, [], ◌∷◌, Option, Some, None, cond, length, min, slice_index_or}
 use Rattle.slot_order.specs.Order.{slot}
 use Rattle.slot_pool.specs.Arrangement.{Slots, passes}
 
@@ -18,11 +18,19 @@ abbrev pub earlier : Option ℕ → ℕ → Option ℕ
 earlier None at = Some at
 earlier (Some home) at = Some (min home at)
 
--- how many slots hold an id
-abbrev pub copies_of : Slots → ℕ → ℕ
-copies_of slots id = count_by (λ held. passes (λ x. x == id) held) slots
+-- a place, where an id is held there
+abbrev pub place_of : ℕ → ℕ → Option ℕ → ℕ
+place_of id at held = cond (passes (λ x. x == id) held) at 0
 
--- of each id below the number of slots, how many slots hold it
-pub record AreCopies (slots : Slots) (copies : List ℕ) : Type 0 where
-  pub size : length copies ≡ length slots
-  pub many : (id : ℕ) → id < length slots → slice_index_or copies id 0 ≡ copies_of slots id
+-- the sum of the places that hold an id, of slots from a place on, and of all
+abbrev pub sum_from : ℕ → ℕ → Slots → ℕ
+sum_from id at [] = 0
+sum_from id at (held ∷ slots) = place_of id at held + sum_from id (suc at) slots
+
+abbrev pub sum_of : Slots → ℕ → ℕ
+sum_of slots id = sum_from id 0 slots
+
+-- of each id below the number of slots, the sum of the slots that hold it
+pub record AreSums (slots : Slots) (sums : List ℕ) : Type 0 where
+  pub size : length sums ≡ length slots
+  pub each : (id : ℕ) → id < length slots → slice_index_or sums id 0 ≡ sum_of slots id

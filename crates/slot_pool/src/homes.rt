@@ -1,10 +1,10 @@
-//! The least slot of each id, and how many hold it, kept as ids come and go.
-ghost use Rattle.std.specs.Prelude.{◌≡◌, ◌≢◌, ℕ, ◌+◌, ◌==◌, ◌<◌, ◌≤◌, IsTrue, None, Some, length, slice_set};
+//! The least slot of each id, and the sum of those that hold it, kept as ids come and go.
+ghost use Rattle.std.specs.Prelude.{◌≡◌, ◌+◌, ◌==◌, ◌<◌, ◌≤◌, None, Some, length, slice_set};
 ghost use Rattle.slot_order.specs.Order.{slot as held_in};
 ghost use Rattle.slot_pool.specs.Arrangement.{passes};
-ghost use Rattle.slot_pool.specs.Homes.{IsFirstOf, AreHomes, AreCopies, earlier};
+ghost use Rattle.slot_pool.specs.Homes.{IsFirstOf, AreHomes, AreSums, earlier, sum_of};
 
-use crate::copies;
+use crate::sums;
 
 /// The least slot from a place on that holds an id.
 pub(crate) fn first_of(slots: &[Option<u32>], from: u32, id: u32) -> Option<u32>
@@ -23,7 +23,7 @@ pub(crate) fn first_of(slots: &[Option<u32>], from: u32, id: u32) -> Option<u32>
 pub(crate) fn put(
     slots: &mut [Option<u32>],
     homes: &mut [Option<u32>],
-    copies: &mut [u32],
+    sums: &mut [u32],
     slot: u32,
     id: u32,
 )
@@ -31,12 +31,12 @@ pub(crate) fn put(
     requires place { slot < length slots.old }
     requires free { held_in slots.old slot ≡ None }
     requires homes { AreHomes slots.old homes.old }
-    requires copies { AreCopies slots.old copies.old }
+    requires sums { AreSums slots.old sums.old }
     ensures slots { slots.new ≡ slice_set slots.old slot (Some id) }
     ensures homes { AreHomes slots.new homes.new }
-    ensures copies { AreCopies slots.new copies.new }
+    ensures sums { AreSums slots.new sums.new }
 {
-    copies::put(copies, slots, slot, id);
+    sums::put(sums, slots, slot, id);
     slots[slot as usize] = Some(id);
     if id as usize >= homes.len() {
         return;
@@ -44,24 +44,23 @@ pub(crate) fn put(
     homes[id as usize] = earlier(homes[id as usize], slot);
 }
 
-/// Empties a slot. Only where another slot may hold what it held that is searched for.
+/// Empties a slot. Only where two more slots or more hold what it held these are searched for.
 pub(crate) fn erase(
     slots: &mut [Option<u32>],
     homes: &mut [Option<u32>],
-    copies: &mut [u32],
+    sums: &mut [u32],
     slot: u32,
 )
     requires few { length slots.old ≤ 65536 }
     requires place { slot < length slots.old }
     requires homes { AreHomes slots.old homes.old }
-    requires copies { AreCopies slots.old copies.old }
+    requires sums { AreSums slots.old sums.old }
     ensures slots { slots.new ≡ slice_set slots.old slot None }
     ensures homes { AreHomes slots.new homes.new }
-    ensures copies { AreCopies slots.new copies.new }
+    ensures sums { AreSums slots.new sums.new }
 {
     let held = slots[slot as usize];
-    let alone = copies::is_alone(copies, slots, slot);
-    copies::erase(copies, slots, slot);
+    sums::erase(sums, slots, slot);
     slots[slot as usize] = None;
     let Some(id) = held else {
         return;
@@ -70,19 +69,22 @@ pub(crate) fn erase(
         return;
     }
     if holds(homes[id as usize], slot) {
-        homes[id as usize] = next_home(slots, slot, id, alone);
+        homes[id as usize] = next_home(slots, slot, id, sums[id as usize]);
     }
 }
 
-/// The least slot behind one that holds an id, or none where that is known.
-fn next_home(slots: &[Option<u32>], slot: u32, id: u32, alone: bool) -> Option<u32>
+/// The least slot behind one that holds an id, by the sum of all that hold it. Where one alone does it is that sum.
+fn next_home(slots: &[Option<u32>], slot: u32, id: u32, sum: u32) -> Option<u32>
     requires few { length slots.now ≤ 65536 }
     requires place { slot < length slots.now }
-    requires alone { IsTrue alone → (k : ℕ) → slot < k → held_in slots.now k ≢ Some id }
+    requires sum { sum ≡ sum_of slots.now id }
     ensures { IsFirstOf slots.now (slot + 1) id result }
 {
-    if alone {
+    if sum == 0 {
         return None;
+    }
+    if sum > slot && (sum as usize) < slots.len() && holds(slots[sum as usize], id) {
+        return Some(sum);
     }
     first_of(slots, slot + 1, id)
 }

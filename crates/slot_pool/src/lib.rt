@@ -9,14 +9,15 @@
 //! 64 taken slots at a step. `Marks` is a row of such bits by itself, for whoever marks slots.
 //!
 //! A table of homes stands beside them too: for each id below the number of slots the least slot
-//! that holds it, and how many slots do. A planner asks for the homes of all entries that overlap
-//! one, and erases a slot only once for each move, so the table is looked up at once, and only an id
-//! that leaves its home for another slot is searched for, behind it; one that goes isn't. An id past
-//! the table is searched for among the slots.
+//! that holds it, and the sum of all that do. A planner asks for the homes of all entries that
+//! overlap one, and moves an entry by putting it into a second slot before the first is written
+//! over: so of an id in two slots the sum less the one is the other, and neither an entry that moves
+//! nor one that goes is searched for. Only an id in three slots or more is, and one past the table.
 //!
 //! # Decided
-//! - **A table of homes takes four bytes an id.** An id is searched for only where the count of its slots says that
-//!   another slot holds it, so an entry that goes costs no walk to the table's end.
+//! - **The sum of an id's slots stands in the place of their number**, in as many bytes. The number says that an entry that
+//!   goes is in no other slot, and the sum says it too; but of an entry that moves up the number doesn't tell where to, and
+//!   each such move walked to the new slot.
 #![tactic(auto)]
 
 ghost use Rattle.std.specs.Prelude.{◌≡◌, ◌==◌, ℕ, ◌+◌, ◌<◌, ◌≤◌, None, Some, IfOk, length, replicate, slice_set, count_by, is_none};
@@ -24,10 +25,10 @@ ghost use Rattle.slot_order.specs.Order.{slot as held_in};
 ghost use Rattle.slot_pool.specs.Free.{IsBelow, IsFrom, nearer_of};
 ghost use Rattle.slot_pool.specs.Arrangement.{IsFirstFree, home_of, nearest_free, next_free_above, last_free_below, HasTwin};
 
-mod copies;
 mod free;
 mod homes;
 mod mark_row;
+mod sums;
 
 pub use mark_row::Marks;
 use std::alloc::{AllocError, Global};
@@ -42,8 +43,8 @@ pub struct Arrangement {
     slots: Vec<Option<u32>>,
     // The least slot of each id below the number of slots.
     homes: Vec<Option<u32>>,
-    // How many slots hold each of these ids.
-    copies: Vec<u32>,
+    // The sum of the slots that hold each of these ids.
+    sums: Vec<u32>,
     // The bit of each slot, 64 slots a word, 1 where the slot is empty.
     free: Vec<u64>,
     // How many slots are empty.
@@ -54,13 +55,13 @@ impl Model for Arrangement {
     ghost use Rattle.std.specs.Prelude.{◌≡◌, ◌≤◌, length, count_by, is_none};
     ghost use Rattle.slot_pool.specs.Arrangement.{Slots};
     ghost use Rattle.slot_pool.specs.Free.{AreFree};
-    ghost use Rattle.slot_pool.specs.Homes.{AreHomes, AreCopies};
+    ghost use Rattle.slot_pool.specs.Homes.{AreHomes, AreSums};
 
     ghost Value = { Slots };
 
     ghost view = { λ a. a.slots.items };
 
-    ghost invariant = { λ a. (1 ≤ length a.slots.items) × (length a.slots.items ≤ 65536) × AreHomes a.slots.items a.homes.items × AreFree a.slots.items a.free.items × (a.free_count ≡ count_by (λ held. is_none held) a.slots.items) × AreCopies a.slots.items a.copies.items };
+    ghost invariant = { λ a. (1 ≤ length a.slots.items) × (length a.slots.items ≤ 65536) × AreHomes a.slots.items a.homes.items × AreFree a.slots.items a.free.items × (a.free_count ≡ count_by (λ held. is_none held) a.slots.items) × AreSums a.slots.items a.sums.items };
 }
 
 impl Arrangement {
@@ -73,12 +74,12 @@ impl Arrangement {
         let free = free::all_marked(alloc, slots)?;
         let free_count = slots;
         let homes = vec![in alloc; None; slots as usize]?;
-        let copies = vec![in alloc; 0; slots as usize]?;
+        let sums = vec![in alloc; 0; slots as usize]?;
         let slots = vec![in alloc; None; slots as usize]?;
         Ok(Arrangement {
             slots,
             homes,
-            copies,
+            sums,
             free,
             free_count,
         })
@@ -163,7 +164,7 @@ impl Arrangement {
         requires free { held_in self.old slot ≡ None }
         ensures { self.new ≡ slice_set self.old slot (Some id) }
     {
-        homes::put(&mut self.slots, &mut self.homes, &mut self.copies, slot, id);
+        homes::put(&mut self.slots, &mut self.homes, &mut self.sums, slot, id);
         free::unmark(&mut self.free, slot);
         self.free_count -= 1;
     }
@@ -174,7 +175,7 @@ impl Arrangement {
         ensures { self.new ≡ slice_set self.old slot None }
     {
         let held = self.at(slot);
-        homes::erase(&mut self.slots, &mut self.homes, &mut self.copies, slot);
+        homes::erase(&mut self.slots, &mut self.homes, &mut self.sums, slot);
         free::mark(&mut self.free, slot);
         if held.is_some() {
             self.free_count += 1;
@@ -198,12 +199,12 @@ impl Arrangement {
     {
         let slots = Vec::from_slice(alloc, &self.slots)?;
         let homes = Vec::from_slice(alloc, &self.homes)?;
-        let copies = Vec::from_slice(alloc, &self.copies)?;
+        let sums = Vec::from_slice(alloc, &self.sums)?;
         let free = Vec::from_slice(alloc, &self.free)?;
         Ok(Arrangement {
             slots,
             homes,
-            copies,
+            sums,
             free,
             free_count: self.free_count,
         })

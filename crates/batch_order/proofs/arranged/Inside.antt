@@ -17,7 +17,7 @@ use Rattle.placement.proofs.Planned.{plan}
 use Rattle.placement.proofs.Planner.{Related, ranked_reads}
 use Rattle.placement.proofs.Orders.{ranked}
 use Rattle.placement.proofs.Readied.{ready_ordered}
-use Rattle.batch_order.specs.Planning.{IsInside}
+use Rattle.move_planner.specs.Noted.{IsInside}
 
 from_writes : (size : ℕ) (moves : List Move) → AllInside size (map write_of moves) → AllByRecursion (IsInside size) moves
 from_writes size [] inside = tt

@@ -23,6 +23,7 @@ use Rattle.batch_order.specs.Managed.Way.{On, Back}
 use Rattle.batch_order.specs.Passed.{WayBackFrom, HasWayBack}
 use Rattle.batch_order.specs.Steps.{Aborts, TurnsBack, TurnsPrepared}
 use Rattle.batch_order.specs.Turning.{undo_in, undo_of}
+use Rattle.batch_order.specs.Undoing.{StandsAt}
 use Rattle.batch_order.specs.CarriedOut.{HasRoomBothWays, HasRoomLeft}
 use Rattle.batch_order.specs.Planning.{all_writes}
 use Rattle.batch_order.proofs.under_way.Carried.{held_size, view_of}
@@ -130,6 +131,21 @@ module _ (translation : Option Translation) (rules : StoredRules) (kept : Entrie
       by : (b : Bool) → held.prepared ≡ b → IsManaged translation rules kept slots (Some new)
       by true is = go is held.turned refl
       by false is = subst is_so (sym (did.restarted is).1) managed
+
+  -- the arrangement stands as it did
+  pub stands_turned : (before now : Slots) (result : Result ℕ AbortFault) (new : Held) → IsTurnedBy result new → StandsAt before now (Some held) → StandsAt before now (Some new)
+  stands_turned before now result new did stands = by held.prepared refl
+    where
+      is_so : Held → Type 0
+      is_so h = StandsAt before now (Some h)
+
+      go : held.prepared ≡ true → (t : Option ℕ) → held.turned ≡ t → StandsAt before now (Some new)
+      go prepared None is = subst is_so (sym (did.turns prepared is).1) stands
+      go prepared (Some undone) is = subst is_so (sym (did.stays prepared (subst IsSome (sym is) refl)).1) stands
+
+      by : (b : Bool) → held.prepared ≡ b → StandsAt before now (Some new)
+      by true is = go is held.turned refl
+      by false is = subst is_so (sym (did.restarted is).1) stands
 
   aborts_back : (result : Result ℕ AbortFault) (new : Held) → (held.turned ≡ None → (result ≡ Ok held.made) × (new ≡ turned_at held)) → (IsSome held.turned → (result ≡ Err (abort_fault.Back held.made)) × (new ≡ held))
       → TurnsBack (view_of placement translation rules kept slots (Some held)) (held_of translation slots rules.rules kept.entries held) (held_of translation slots rules.rules kept.entries held).way result (view_of placement translation rules kept slots (Some new))

@@ -26,10 +26,13 @@ use Rattle.batch_order.proofs.under_way.Left.{steps_as, word_at}
 use Rattle.commit_writes.specs.Undo.{restoring, undo_writes}
 use Rattle.commit_writes.proofs.Actions.{undo-append}
 use Rattle.commit_writes.proofs.Undone.{restored}
+use Rattle.placement.specs.declared.Move.TheVariants.{Erase}
 use Rattle.batch_order.specs.declared.held.Held.{Held}
+use Rattle.batch_order.specs.declared.planned_writes.PlannedWrite.TheVariants.{Moved}
 use Rattle.batch_order.specs.declared.translation.Translation.{Translation}
 use Rattle.batch_order.specs.Entries.{Entries}
 use Rattle.batch_order.specs.Kept.{IsManaged, IsPrepared, bits_after, bits_of, course_of, current_of, held_of, held_writes, mode_of, one_less, settled_state, state_of, way_of}
+use Rattle.batch_order.specs.Noting.{all_undo}
 use Rattle.batch_order.specs.Planning.{as_write, as_writes, all_writes}
 use Rattle.batch_order.specs.Steps.{Steps, StepsOn, awaits_drain, current_by, due_write, is_drain_next, next_of, way_by}
 use Rattle.batch_order.proofs.under_way.Carried.{held_size, view_of}
@@ -73,7 +76,7 @@ module _ (translation : Option Translation) (rules : StoredRules) (kept : Entrie
   is_back = subst IsSome (sym turned) refl
 
   -- it was prepared
-  pub way : IsPrepared translation rules kept slots held.ids.items (held_writes kept.entries held) (as_writes kept.entries held.rewrites.items held.undo.items)
+  pub way : IsPrepared translation rules kept slots held.ids.items (held_writes kept.entries held) (as_writes kept.entries held.rewrites.items (all_undo held.undo))
   way = managed.carried.way_back (managed.carried.back is_back)
 
   -- with one write less made it can be carried out still
@@ -147,7 +150,7 @@ module _ (translation : Option Translation) (rules : StoredRules) (kept : Entrie
     pub next : next_of (Some (held_of translation slots rules.rules kept.entries held)) ≡ Some write
     pub in_use : IsInUse (length slots) write
 
-  pub next_back : (write : Write) → (held.made ≡ 0 → ⊥) → slice_get (as_writes kept.entries held.rewrites.items held.undo.items) (held.made - 1) ≡ Some write → IsNextBack write
+  pub next_back : (write : Write) → (held.made ≡ 0 → ⊥) → slice_get (as_writes kept.entries held.rewrites.items (all_undo held.undo)) (held.made - 1) ≡ Some write → IsNextBack write
   next_back write some read = go held.made refl
     where
       go : (n : ℕ) → held.made ≡ n → IsNextBack write
@@ -156,9 +159,9 @@ module _ (translation : Option Translation) (rules : StoredRules) (kept : Entrie
           let last = last_one k is in
           let undo : Write = restoring (state_after begun (take k writes)) last.0 in
           let less : held.made - 1 ≡ k = omega arith in
-          let at : slice_get (as_writes kept.entries held.rewrites.items held.undo.items) k ≡ Some undo =
+          let at : slice_get (as_writes kept.entries held.rewrites.items (all_undo held.undo)) k ≡ Some undo =
           ap (λ ws. slice_get ws k) way.undo_is ∙ restoring_read begun writes k last.0 last.1.read in
-          let same : Some undo ≡ Some write = sym at ∙ ap (slice_get (as_writes kept.entries held.rewrites.items held.undo.items)) (sym less) ∙ read in
+          let same : Some undo ≡ Some write = sym at ∙ ap (slice_get (as_writes kept.entries held.rewrites.items (all_undo held.undo))) (sym less) ∙ read in
           let one : undo ≡ write = cc in
           record {
             next = back_next translation rules kept slots held undone turned ∙ ap (λ ws. slice_get ws 0) last.1.undo ∙ same;
@@ -167,24 +170,23 @@ module _ (translation : Option Translation) (rules : StoredRules) (kept : Entrie
           }
 
   -- each write has one
-  pub undo_size : length held.undo.items ≡ length (all_writes held.writes)
+  pub undo_size : length (all_undo held.undo) ≡ length (all_writes held.writes)
   undo_size =
-      sym (length-map held.undo.items (as_write kept.entries held.rewrites.items)) ∙ ap length way.undo_is ∙ length-restorings begun writes ∙ held_size kept.entries held
+      sym (length-map (all_undo held.undo) (as_write kept.entries held.rewrites.items)) ∙ ap length way.undo_is ∙ length-restorings begun writes ∙ held_size kept.entries held
 
   -- so the last one of what was made is there
-  pub undo_there : (held.made ≡ 0 → ⊥) → (size : ℕ) → size ≡ length held.undo.items → false ≡ nat_lt (held.made - 1) size → ⊥
-  undo_there some size is past = go held.made refl
+  pub undo_there : (held.made ≡ 0 → ⊥) → slice_get (all_undo held.undo) (held.made - 1) ≡ None → ⊥
+  undo_there some past = go held.made refl
     where
       go : (n : ℕ) → held.made ≡ n → ⊥
       go zero none = some none
       go (suc k) stands =
-          let all : length held.undo.items ≡ length (all_writes held.writes) = undo_size in
+          let all : length (all_undo held.undo) ≡ length (all_writes held.writes) = undo_size in
           let most : held.made ≤ length (all_writes held.writes) = managed.carried.made in
           let less : held.made - 1 ≡ k = omega arith in
-          let beyond : nat_lt k size ≡ false = ap (λ n. nat_lt n size) (sym less) ∙ sym past in
-          let last : size ≤ k = grind arith in
-          let number : size ≡ length held.undo.items = is in
-          omega arith
+          let there = slice_get-get_or (all_undo held.undo) k (Moved (Erase 0)) (omega arith) in
+          let clash = sym there ∙ (ap (slice_get (all_undo held.undo)) (sym less) ∙ past) in
+          absurd (cc)
 
 -- what puts a write's slot or word back is of its kind
 restoring_kind : (state : State) (write : Write) → is_table_write (restoring state write) ≡ is_table_write write

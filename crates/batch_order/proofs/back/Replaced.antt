@@ -11,6 +11,7 @@ use Rattle.batch_order.specs.declared.held.Held.{Held}
 use Rattle.batch_order.specs.declared.translation.Translation.{Translation}
 use Rattle.batch_order.specs.Entries.{Entries}
 use Rattle.batch_order.specs.Kept.{IsManaged, drains_at, held_of, held_writes, settled_state, state_of}
+use Rattle.batch_order.specs.Noting.{all_undo}
 use Rattle.batch_order.specs.Planning.{as_writes}
 use Rattle.batch_order.specs.Steps.{due_write, next_of}
 use Rattle.batch_order.proofs.under_way.Drains.{due_none}
@@ -26,7 +27,7 @@ read_restoring state (first ∷ writes) (suc n) write read = read_restoring (app
 -- so the undo write at the place of the next one is what puts back what this replaces
 pub restores_next : (translation : Option Translation) (rules : StoredRules) (kept : Entries) (slots : Slots) (held : Held) → IsManaged translation rules kept slots (Some held)
     → held.prepared ≡ true → held.turned ≡ None → (write : Write) → next_of (Some (held_of translation slots rules.rules kept.entries held)) ≡ Some write
-    → slice_get (as_writes kept.entries held.rewrites.items held.undo.items) held.made ≡ Some (restoring (state_of translation kept.entries slots (Some held)) write)
+    → slice_get (as_writes kept.entries held.rewrites.items (all_undo held.undo)) held.made ≡ Some (restoring (state_of translation kept.entries slots (Some held)) write)
 restores_next translation rules kept slots held managed prepared forward write next =
     ap (λ (undo : List Write). slice_get undo held.made) (managed.carried.way_back prepared).undo_is
     ∙ read_restoring (settled_state translation kept.entries slots) (held_writes kept.entries held) held.made write read

@@ -13,6 +13,7 @@ use Rattle.batch_order.specs.Entries.{Entries, KeepEntries}
 use Rattle.batch_order.specs.Kept.{IsManaged, IsPrepared, bits_of, held_of, held_writes, mode_of, settled_state, way_of}
 use Rattle.batch_order.specs.Managed.{HeldCommit, Managed, Way}
 use Rattle.batch_order.specs.Managed.Way.{Back}
+use Rattle.batch_order.specs.Noting.{all_undo}
 use Rattle.batch_order.specs.Planning.{as_writes}
 use Rattle.batch_order.specs.Steps.{IsAllMade, Steps, StepsOn, cancelled, end_answer, left_by}
 use Rattle.batch_order.proofs.back.Back.{back_actions, last_one}
@@ -27,7 +28,7 @@ pub record IsReverted (kept kept' : Entries) (held : Held) : Type 0 where
   pub slots : kept'.slots ≡ kept.slots
 
 module _ (translation : Option Translation) (rules : StoredRules) (kept kept' : Entries) (slots : Slots) (held : Held) (managed : IsManaged translation rules kept slots (Some held))
-    (way : IsPrepared translation rules kept slots held.ids.items (held_writes kept.entries held) (as_writes kept.entries held.rewrites.items held.undo.items)) (reverted : IsReverted kept kept' held) where
+    (way : IsPrepared translation rules kept slots held.ids.items (held_writes kept.entries held) (as_writes kept.entries held.rewrites.items (all_undo held.undo))) (reverted : IsReverted kept kept' held) where
   idle : IsManaged translation rules (record kept { live = way.before }) slots None
   idle = record { right = managed.right; is_set = managed.is_set; tables = managed.tables; translated = managed.translated; carried = way.old }
 

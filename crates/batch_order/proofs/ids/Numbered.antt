@@ -45,7 +45,7 @@ same_length xs ys once_x once_y to from = length-from_same_keys nat_eq_equiv xs 
     ]
 
 -- live pieces of one id are one
-one_live : (slots : ℕ) (live : List LivePiece) (a b : LivePiece) → AreApart slots live → Contains live a → Contains live b → a.id ≡ b.id → a ≡ b
+pub one_live : (slots : ℕ) (live : List LivePiece) (a b : LivePiece) → AreApart slots live → Contains live a → Contains live b → a.id ≡ b.id → a ≡ b
 one_live slots live a b apart in_a in_b same = sym (piece_is a live a apart.once in_a) ∙ (ap (piece_in a live) same ∙ piece_is a live b apart.once in_b)
 
 -- two that aren't one piece of one rank

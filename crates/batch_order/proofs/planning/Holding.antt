@@ -28,6 +28,7 @@ use Rattle.batch_order.specs.declared.translation.Translation.{Translation}
 use Rattle.batch_order.specs.declared.Placement.{Placement}
 use Rattle.batch_order.specs.ByParts.{longest_parts, longest_planned_parts}
 use Rattle.batch_order.specs.Entries.{AddsIds, Entries}
+use Rattle.batch_order.specs.Noting.{all_undo}
 use Rattle.batch_order.specs.Planning.{as_writes}
 use Rattle.batch_order.proofs.planning.Refused.{adds_first, adds_last}
 use Rattle.batch_order.specs.Kept.{IsManaged, IsArranged, bits_of, changed_by, course_of, held_of, held_writes, mode_of, settled_state, tables_of, translation_after, way_of}
@@ -52,7 +53,7 @@ pub record IsHeldPlan (placement : Placement) (translation : Option Translation)
   pub awaits : held.awaits ≡ have_bits (new_bits (bits_of translation) (during_of held.bits))
   pub undrained : held.drained ≡ false
   pub forward : held.turned ≡ None
-  pub undo : as_writes new.entries held.rewrites.items held.undo.items ≡ restorings (settled_state translation new.entries slots) (held_writes new.entries held)
+  pub undo : as_writes new.entries held.rewrites.items (all_undo held.undo) ≡ restorings (settled_state translation new.entries slots) (held_writes new.entries held)
   pub adds : AddsIds old new held.ids.items
   pub batch_is : held.batch ≡ batch
   pub coded : IsCoded translation rules batch held.bits

@@ -1,10 +1,12 @@
 -- What a plan of a batch leads to: its writes are the segment of the batch, the entries behind them those of the new set, and
 -- the tables serve its ranges.
-use Rattle.std.proofs.Common.{◌≡◌, ℕ, ◌+◌, ◌*◌, ◌^◌, ◌≤◌, List, [], ◌∷◌, ◌++◌, length, map, Option, Some, None, IsTrue, refl, sym, ap, ap₂, subst, ◌∙◌, arith}
+use Rattle.std.proofs.Common.{◌≡◌, ℕ, ◌+◌, ◌*◌, ◌^◌, ◌≤◌, List, [], ◌∷◌, ◌++◌, Contains, length, map, Option, Some, None, IsTrue, false, refl, sym, ap, ap₂, subst, ◌∙◌, arith, eqb-true}
 use Rattle.std.specs.Prelude.{nat_eq}
 use Rattle.std.specs.List.{AllByRecursion, AllZip, IsDistinct}
 use Rattle.std.proofs.lemmas.List.{length-append, length-map}
+use Rattle.std.proofs.lemmas.Bool.{false_from_ne_true}
 use Rattle.slot_order.specs.Order.{most_slots}
+use Rattle.slot_order.proofs.Lists.{all_append, contains_head, contains_tail}
 use Rattle.slot_pool.specs.Arrangement.{Slots}
 use Rattle.rule_model.specs.declared.Rule.{Rule}
 use Rattle.rule_store.specs.declared.Mode.{Mode}
@@ -26,7 +28,7 @@ use Rattle.commit_writes.specs.Serving.{AreBitsOf}
 use Rattle.commit_writes.specs.Shape.{set_pieces, rewritten_pieces, erased_pieces}
 use Rattle.commit_writes.specs.Planned.{Planned, AreEntriesOf, contents, with_slots}
 use Rattle.commit_writes.specs.PlannedBatch.{AreNumbersOf, IsIdOf, IsPlannedSegment, IsRewriteOf, batch_writes, erased_live, erased_slots, rewritten_entries}
-use Rattle.commit_writes.proofs.BatchPieces.{erased_once, rewritten_once}
+use Rattle.commit_writes.proofs.BatchPieces.{erased_once, erased_was, rewritten_once}
 use Rattle.commit_writes.proofs.BatchRules.{IsSoundChange}
 use Rattle.commit_writes.proofs.BatchSegment.{batch_few}
 use Rattle.commit_writes.proofs.BatchState.{batch_entries, batch_state}
@@ -35,6 +37,7 @@ use Rattle.commit_writes.proofs.NoBits.{bit_writes-none}
 use Rattle.commit_writes.proofs.ServedTables.{bits_after}
 use Rattle.commit_writes.proofs.SlotWrites.{AreToSlots, LeavesTables, batch_slots}
 use Rattle.commit_writes.proofs.WholeSegment.{batch_segment}
+use Rattle.commit_writes.proofs.Zips.{zip_right}
 use Rattle.commit_writes.specs.Changes.{coded_by}
 use Rattle.batch_order.specs.declared.translation.Translation.{Translation}
 use Rattle.batch_order.specs.declared.Placement.{Placement}
@@ -42,7 +45,7 @@ use Rattle.batch_order.specs.Entries.{Entries}
 use Rattle.batch_order.specs.Planning.{IsSettled, IsStanding}
 use Rattle.batch_order.specs.Kept.{IsArranged, bits_of, changed_by, mode_of, settled_state, tables_of, translated_by}
 use Rattle.batch_order.specs.Placing.{words_of}
-use Rattle.batch_order.proofs.ids.Numbered.{ids_apart, ids_few}
+use Rattle.batch_order.proofs.ids.Numbered.{ids_apart, ids_few, one_live}
 use Rattle.batch_order.proofs.planning.Since.{live_more}
 use Rattle.batch_order.proofs.arranged.Entered.{contents_kept}
 use Rattle.batch_order.proofs.arranged.Cleared.{live_stands, settled_erased}
@@ -112,6 +115,44 @@ few_rewrites mode bits rules batch slots live rewrites erased apart change parts
     let fewer : length ids ≤ length live =
     ids_few slots live (rewritten_pieces mode bits rules batch) ids apart (rewritten_once mode bits rules batch change) (rewritten_ids live (rewritten_pieces mode bits rules batch) rewrites parts.rewrites_are) in
     omega arith
+
+-- and none of them goes: an id of either kind is there once
+distinct_both : (first second : List ℕ) → IsDistinct nat_eq first → IsDistinct nat_eq second → ((id : ℕ) → Contains first id → Contains second id → ⊥) → IsDistinct nat_eq (first ++ second)
+unfolding IsDistinct
+distinct_both [] second one two none = two
+distinct_both (id ∷ first) second one two none = (
+  all_append (λ other. nat_eq id other ≡ false) first second one.0 (apart second (λ other member same. none id (contains_head id first) (subst (Contains second) (sym same) member))),
+  distinct_both first second one.1 two (λ other here there. none other (contains_tail id other first here) there),
+)
+  where
+    apart : (some : List ℕ) → ((other : ℕ) → Contains some other → id ≡ other → ⊥) → AllByRecursion (λ other. nat_eq id other ≡ false) some
+    apart [] differ = tt
+    apart (other ∷ some) differ = (
+      false_from_ne_true (nat_eq id other) (λ same. differ other (contains_head other some) (eqb-true id other same)),
+      apart some (λ last member. differ last (contains_tail other last some member)),
+    )
+
+pub parts_apart : (mode : Mode) (bits : FieldBits) (rules : List Rule) (batch : List Command) (slots : ℕ) (live : List LivePiece) (rewrites : List Rewrite) (erased : List ℕ) → AreApart slots live
+    → IsSoundChange rules batch → ArePartsOf mode bits rules batch live rewrites erased → IsDistinct nat_eq (map (λ (rewrite : Rewrite). rewrite.id) rewrites ++ erased)
+parts_apart mode bits rules batch slots live rewrites erased apart change parts =
+    distinct_both ids erased
+    (ids_apart slots live (rewritten_pieces mode bits rules batch) ids apart (rewritten_once mode bits rules batch change) of_rewrites)
+    (ids_apart slots live (erased_pieces mode bits rules batch) erased apart (erased_once mode bits rules batch change) parts.erased_are) clash
+  where
+    ids : List ℕ
+    ids = map (λ (rewrite : Rewrite). rewrite.id) rewrites
+
+    of_rewrites : AllZip (IsIdOf live) (rewritten_pieces mode bits rules batch) ids
+    of_rewrites = rewritten_ids live (rewritten_pieces mode bits rules batch) rewrites parts.rewrites_are
+
+    clash : (id : ℕ) → Contains ids id → Contains erased id → ⊥
+    clash id here there =
+        let stays = zip_right (IsIdOf live) (rewritten_pieces mode bits rules batch) ids id of_rewrites here in
+        let goes = zip_right (IsIdOf live) (erased_pieces mode bits rules batch) erased id parts.erased_are there in
+        let one : LivePiece = record { id = id; piece = stays.0.piece; rank = stays.0.rank } in
+        let other : LivePiece = record { id = id; piece = goes.0.piece; rank = goes.0.rank } in
+        let same : one ≡ other = one_live slots live one other apart stays.2 goes.2 refl in
+        (erased_was mode bits rules batch change goes.0 goes.1).1.1.1 stays.0 stays.1 (ap (λ (l : LivePiece). l.piece) same) (ap (λ (l : LivePiece). l.rank) same)
 
 module _ (placement : Placement) (translation : Option Translation) (rules : StoredRules) (old new : Entries) (slots middle : Slots) (batch : List Command) (rewrites : List Rewrite) (erased : List ℕ) (writes : List Write) (counts : Done)
     (plan : IsPlanOf placement translation rules old new slots middle batch rewrites erased writes counts) where

@@ -10,7 +10,8 @@ use Rattle.commit_writes.specs.declared.Rewrite.{Rewrite}
 use Rattle.commit_writes.specs.Planned.{IdEntries, Planned, planned_writes, write_for}
 use Rattle.batch_order.specs.declared.planned_writes.PlannedWrite.{PlannedWrite}
 use Rattle.batch_order.specs.declared.planned_writes.PlannedWrite.TheVariants.{Tabled, Moved, Rewritten}
-use Rattle.batch_order.specs.Planning.{IsInside, IsWithin, as_write, as_writes, planned_moves}
+use Rattle.move_planner.specs.Noted.{IsInside}
+use Rattle.batch_order.specs.Planning.{IsWithin, as_write, as_writes, planned_moves}
 
 pub as_append : (entries : IdEntries) (rewrites : List Rewrite) (first second : List PlannedWrite)
     → as_writes entries rewrites (first ++ second) ≡ as_writes entries rewrites first ++ as_writes entries rewrites second
@@ -21,7 +22,7 @@ pub as_words : (entries : IdEntries) (rewrites : List Rewrite) (words : List Wri
 as_words entries rewrites [] = refl
 as_words entries rewrites (word ∷ words) = ap (λ (rest : List Write). word ∷ rest) (as_words entries rewrites words)
 
-as_moved : (entries : IdEntries) (rewrites : List Rewrite) (moves : List Move) → as_writes entries rewrites (map Moved moves) ≡ map (write_for entries) moves
+pub as_moved : (entries : IdEntries) (rewrites : List Rewrite) (moves : List Move) → as_writes entries rewrites (map Moved moves) ≡ map (write_for entries) moves
 as_moved entries rewrites [] = refl
 as_moved entries rewrites (move ∷ moves) = ap (λ (rest : List Write). write_for entries move ∷ rest) (as_moved entries rewrites moves)
 

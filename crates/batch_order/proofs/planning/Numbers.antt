@@ -12,6 +12,7 @@ use Rattle.batch_order.specs.ByParts.{longest_parts, paired_number, part_number,
 use Rattle.batch_order.specs.CarriedOut.{writes_left}
 use Rattle.batch_order.specs.Entries.{Entries}
 use Rattle.batch_order.specs.Kept.{IsManaged, held_of, held_writes, settled_state, state_of}
+use Rattle.batch_order.specs.Noting.{all_undo}
 use Rattle.batch_order.specs.Planning.{as_writes}
 use Rattle.batch_order.specs.declared.held.Held.{Held}
 use Rattle.batch_order.specs.declared.translation.Translation.{Translation}
@@ -61,12 +62,12 @@ left_whole translation rules kept slots held is =
 
 -- Its parts are those that are counted.
 pub parts_counted : (translation : Option Translation) (rules : StoredRules) (kept : Entries) (slots : Slots) (held : Held) → IsManaged translation rules kept slots (Some held) → IsUnwritten held
-    → paired_number (held_writes kept.entries held) (as_writes kept.entries held.rewrites.items held.undo.items)
+    → paired_number (held_writes kept.entries held) (as_writes kept.entries held.rewrites.items (all_undo held.undo))
     ≡ parts_number (state_of translation kept.entries slots (Some held)) (writes_left (Some (held_of translation slots rules.rules kept.entries held)))
 parts_counted translation rules kept slots held managed is =
     let writes = held_writes kept.entries held in
     let begun = settled_state translation kept.entries slots in
-    let undo : as_writes kept.entries held.rewrites.items held.undo.items ≡ restorings begun writes = (managed.carried.way_back is.prepared).undo_is in
+    let undo : as_writes kept.entries held.rewrites.items (all_undo held.undo) ≡ restorings begun writes = (managed.carried.way_back is.prepared).undo_is in
     let left : writes_left (Some (held_of translation slots rules.rules kept.entries held)) ≡ writes = left_whole translation rules kept slots held is in
     let state : state_of translation kept.entries slots (Some held) ≡ begun = ap (λ n. state_after begun (take n writes)) is.none in
     ap (paired_number writes) undo ∙ (paired_restorings begun writes ∙ ap₂ parts_number (sym state) (sym left))

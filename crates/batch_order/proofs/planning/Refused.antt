@@ -1,5 +1,6 @@
 -- A batch that isn't taken after all: the manager is as it was.
-use Rattle.std.proofs.Common.{◌≡◌, ℕ, ◌+◌, ◌-◌, Option, List, length, map, take, drop, IsTrue, None, sym, ap, ap₂, subst, ◌∙◌, arith}
+use Rattle.std.proofs.Common.{◌≡◌, ℕ, ◌+◌, ◌-◌, Option, List, length, map, take, drop, IsTrue, None, Some, sym, ap, ap₂, subst, ◌∙◌, arith}
+use Rattle.std.specs.Prelude.{option_map}
 use Rattle.std.specs.List.{AllByRecursion}
 use Rattle.std.proofs.Math.Seq.{drop-append_seam}
 use Rattle.std.proofs.lemmas.List.{length-append, length-map, take_at}
@@ -14,9 +15,12 @@ use Rattle.rule_model.specs.declared.words.Entry.{Entry}
 use Rattle.commit_writes.specs.Serving.{AreBitsOf}
 use Rattle.commit_writes.specs.Planned.{with_slots}
 use Rattle.batch_order.specs.declared.Placement.{Placement}
+use Rattle.batch_order.specs.declared.held.Held.{Held}
 use Rattle.batch_order.specs.declared.translation.Translation.{Translation}
 use Rattle.batch_order.specs.Entries.{AreLast, Entries, AddsIds, KeepEntries}
 use Rattle.batch_order.specs.Kept.{IsManaged, IsArranged, bits_of, mode_of, tables_of}
+use Rattle.batch_order.specs.Managed.{HeldCommit}
+use Rattle.batch_order.specs.Undoing.{StandsAt}
 use Rattle.batch_order.proofs.arranged.Entered.{contents_kept}
 use Rattle.batch_order.proofs.under_way.Carried.{view_of}
 use Rattle.batch_order.proofs.arranged.Unchanged.{arranged_same, settled_live}
@@ -60,3 +64,13 @@ view_same placement translation rules rules' old new slots managed same kept =
     ap₂ (λ (r : List Rule) (e : List (Option Entry)).
     record { slots = length slots; mode = mode_of translation; placement = placement; rules = r; bits = bits_of translation; state = with_slots (tables_of translation) e; held = None }) same
     (contents_kept old.live old.entries new.entries slots kept (settled_live old slots managed.carried.settled))
+
+-- with no commit under way the arrangement that is kept is that of the set
+pub stands_idle : (before now : Slots) (held : Option Held) (seen : Held → HeldCommit) → option_map seen held ≡ None → StandsAt before now held → now ≡ before
+stands_idle before now None seen idle stands = stands
+stands_idle before now (Some held) seen idle stands = absurd (cc)
+
+-- it always has as many slots
+pub stands_size : (translation : Option Translation) (rules : StoredRules) (kept : Entries) (before now : Slots) (held : Option Held) → IsManaged translation rules kept before held → StandsAt before now held → length now ≡ length before
+stands_size translation rules kept before now None managed stands = ap length stands
+stands_size translation rules kept before now (Some held) managed stands = ap length stands.0 ∙ (managed.carried.after.settled.size ∙ sym managed.carried.size)

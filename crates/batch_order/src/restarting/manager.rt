@@ -38,7 +38,7 @@ impl Manager {
         ensures mode { result.1 ≡ self.now.mode }
         ensures placement { result.2 ≡ self.now.placement }
     {
-        let slots = self.arrangement.slots();
+        let slots = self.planned.slots();
         (slots, encoding(&self.translation), self.placement)
     }
 
@@ -114,6 +114,7 @@ impl Manager {
                 rules: parts.rules,
                 live: resumed.live,
                 arrangement: resumed.arrangement,
+                planned: resumed.planned,
                 held: Some(resumed.held),
             }),
             Err(AllocError) => Err((RestartFault::Stage(StageFault::Memory), parts)),

@@ -15,10 +15,12 @@ ghost use Rattle.readback.specs.Tasks.{commit_pieces, known_pieces};
 ghost use Rattle.batch_order.specs.Arranged.{arranged_at};
 ghost use Rattle.batch_order.specs.CarriedOut.{HasRoomBothWays, HasRoomLeft};
 ghost use Rattle.batch_order.specs.Kept.{IsManaged, bits_of, mode_of, tables_of};
+ghost use Rattle.batch_order.specs.Noting.{all_undo};
 ghost use Rattle.batch_order.specs.Planning.{all_writes};
 ghost use Rattle.batch_order.specs.Restart.{Resumes, bits_in};
 ghost use Rattle.batch_order.specs.Managed.{HasBlankTables};
 ghost use Rattle.batch_order.specs.Standing.{managed_by};
+ghost use Rattle.batch_order.specs.Undoing.{StandsAt};
 ghost use Rattle.batch_order.specs.Stopped.{IsPlannedOn, IsReadAgain, IsStopped, held_from};
 
 use crate::Placement;
@@ -29,7 +31,9 @@ use crate::plan::{Plan, erase_all};
 use crate::restarting::rest::{parts_left, plan_rest, plan_twin};
 use crate::restarting::standing::{Standing, arrangement_with_twin, standing_in};
 use crate::restarting::words::read_translation;
+use crate::stood::Stood;
 use crate::translation::{Translation, gives_bits, plan_words};
+use crate::undoing::PlannedUndo;
 use commit_writes::FieldBits;
 use readback::{Parts, Shown};
 use rule_store::{Batch, Commands, Mode, Store};
@@ -43,7 +47,9 @@ use tcam_device::ReadBack;
 pub(crate) struct Resumed {
     pub(crate) translation: Option<Translation>,
     pub(crate) live: LiveEntries,
-    pub(crate) arrangement: Arrangement,
+    /// What the device shows, and where the entries stand in the end.
+    pub(crate) arrangement: Stood,
+    pub(crate) planned: Arrangement,
     pub(crate) held: Held,
 }
 
@@ -72,6 +78,7 @@ pub(crate) fn resume<D: ReadBack>(
     ensures managed { IfOk result (λ made. IsManaged made.translation parts.new.rules made.live made.arrangement (Some made.held)) }
     ensures resumes { IfOk result (λ made. Resumes slots mode placement parts.old batch.now (D.view device.old).slots (device_state (D.view device.old))
         (managed_by placement made.translation parts.new.rules made.live made.arrangement (Some made.held))) }
+    ensures stands { IfOk result (λ made. StandsAt made.arrangement made.planned (Some made.held)) }
     ensures same { OnErr result (parts.new ≡ parts.old) }
     ensures reserved { IfOk result (λ made. HasRoomLeft (managed_by placement made.translation parts.new.rules made.live made.arrangement (Some made.held)).held (D.view device.new).spare) }
     ensures both_ways { IfOk result (λ made. HasRoomBothWays (managed_by placement made.translation parts.new.rules made.live made.arrangement (Some made.held)).held (D.view device.new).spare) }
@@ -98,11 +105,14 @@ pub(crate) fn resume<D: ReadBack>(
     let new = gives_bits(&translation, &rest.bits);
     let drain = drain_of(new, has_begun(shown));
     parts.rules.reserve(batch.len())?;
-    let held = hold(alloc, rest, drain, commands, standing.arrangement);
+    let stood = Stood::of_gone(before);
+    let end = Stood::of(&standing.arrangement);
+    let held = hold(alloc, rest, drain, commands, end);
     Ok(Resumed {
         translation,
         live: standing.live,
-        arrangement: before,
+        arrangement: stood,
+        planned: standing.arrangement,
         held,
     })
 }
@@ -123,15 +133,9 @@ fn drain_of(new: bool, begun: bool) -> (bool, bool)
 }
 
 /// A plan as it is held before its first write, with its drain, its batch, and where the entries stand in the end.
-fn hold(
-    alloc: Global,
-    rest: Rest,
-    drain: (bool, bool),
-    batch: Commands,
-    arrangement: Arrangement,
-) -> Held
+fn hold(alloc: Global, rest: Rest, drain: (bool, bool), batch: Commands, arrangement: Stood) -> Held
     ensures held { result ≡ held_from rest drain.0 drain.1 batch arrangement result.undo }
-    ensures undo { result.undo.items ≡ [] }
+    ensures undo { all_undo result.undo ≡ [] }
 {
     let Rest {
         plan,
@@ -141,11 +145,19 @@ fn hold(
     } = rest;
     let counts = plan.counts();
     let (awaits, drained) = drain;
+    let Plan {
+        writes,
+        undo: _,
+        words: _,
+        most: _,
+        span: _,
+        most_parts,
+    } = plan;
     Held {
         prepared: false,
         counts,
-        writes: plan.writes,
-        undo: Vec::new(alloc),
+        writes,
+        undo: PlannedUndo::new(alloc),
         made: 0,
         turned: None,
         awaits,
@@ -156,7 +168,7 @@ fn hold(
         erased: left.erased,
         ids,
         arrangement,
-        most_parts: plan.most_parts,
+        most_parts,
     }
 }
 

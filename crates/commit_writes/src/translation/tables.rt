@@ -133,15 +133,6 @@ impl Tables {
             },
         }
     }
-
-    /// Makes a copy of its own memory. It fails only for want of memory, of 256 KiB.
-    pub fn try_copy(&self, alloc: Global) -> Result<Tables, AllocError>
-        ensures { IfOk result (λ copy. copy ≡ self.now) }
-    {
-        let src = Vec::from_slice(alloc, &self.src)?;
-        let dst = Vec::from_slice(alloc, &self.dst)?;
-        Ok(Tables { src, dst })
-    }
 }
 
 /// The words of a field's table as they stand in a device.

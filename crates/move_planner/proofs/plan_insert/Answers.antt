@@ -5,6 +5,7 @@ use Rattle.placement.specs.Placement.{span_of}
 use Rattle.placement.specs.Insertion.{StandOnce, IsLive, moves_since}
 use Rattle.placement.proofs.Readied.{ready_from}
 use Rattle.move_planner.proofs.Inserted.{wholly, counted}
+use Rattle.move_planner.proofs.Noted.{noted_then}
 use Rattle.move_planner.proofs.Alone.{placement_alone}
 use Rattle.move_planner.proofs.plan_insert.Goals as goal
 
@@ -63,3 +64,11 @@ returns-clause-alone c = λ moves placement.
     let ready = ready_from c.args.index.now c.args.id c.args.slots.now c.requires.few c.requires.free c.requires.live c.find_gap-gap.ensures.apart c.requires.standing c.requires.order in
     let w = wholly c.args.index.now (record { aim = c.args.aim; coming = c.args.coming.now }) c.args.id c.args.slots.now c.clear_gap.new.slots c.place.new.slots c.args.plan.now c.clear_gap.new.plan c.place.new.plan ready c.in_ok-gap.ensures.clear c.in_ok-place.ensures.placed in
     placement_alone (is_above c.args.index.now.live) (rank_in c.args.index.now.live) (record { aim = c.args.aim; coming = c.args.coming.now }) c.args.id c.args.slots.now moves (moves_since c.args.plan.now c.place.new.plan) placement w.placement
+
+pub returns-in_err-place-clause-noted : goal.returns-in_err-place-clause-noted
+returns-in_err-place-clause-noted c =
+    noted_then c.args.slots.now c.clear_gap.new.slots c.place.new.slots c.args.plan.now c.clear_gap.new.plan c.place.new.plan c.args.undo.now c.clear_gap.new.undo c.place.new.undo c.clear_gap.ensures.noted c.place.ensures.noted
+
+pub returns-clause-noted : goal.returns-clause-noted
+returns-clause-noted c =
+    noted_then c.args.slots.now c.clear_gap.new.slots c.place.new.slots c.args.plan.now c.clear_gap.new.plan c.place.new.plan c.args.undo.now c.clear_gap.new.undo c.place.new.undo c.clear_gap.ensures.noted c.place.ensures.noted

@@ -1,10 +1,11 @@
 use Rattle.std.proofs.Common.{◌≡◌, ◌+◌, ◌<◌, ◌∙◌, Option, Some, length, slice_get, arith, sym, ap, ap₂}
 use Rattle.std.specs.Prelude.{option_map}
 use Rattle.std.proofs.lemmas.List.{length-map, take_all}
-use Rattle.std.proofs.lemmas.Option.{slice_get-get_or, slice_get-map}
+use Rattle.std.proofs.lemmas.Option.{slice_get-map}
 use Rattle.tcam_device.specs.declared.Write.{Write}
 use Rattle.batch_order.specs.ByParts.{paired_number}
 use Rattle.batch_order.specs.declared.planned_writes.PlannedWrite.{PlannedWrite}
+use Rattle.batch_order.specs.Noting.{all_undo}
 use Rattle.batch_order.specs.Planning.{all_writes, as_write, as_writes}
 use Rattle.batch_order.proofs.planning.Numbers.{paired_more}
 use Rattle.batch_order.proofs.by_parts.parts_of_all.Goals as goal
@@ -12,16 +13,14 @@ use Rattle.batch_order.proofs.by_parts.parts_of_all.Goals as goal
 pub loop-place-preserved : goal.loop-place-preserved
 loop-place-preserved c =
     let writes = all_writes c.args.writes.now in
-    let undo = c.args.undo.now in
+    let undo = all_undo c.args.undo.now in
     let entries = c.args.live.now.entries in
     let rewrites = c.args.rewrites.now in
     let place = c.loop-place.place in
     let inside : place < length writes = omega arith in
     let size : length undo ≡ length writes = c.requires.size in
-    let also : place < length undo = omega arith in
     let one : slice_get writes place ≡ Some c.unwrap-planned.result = sym c.get.ensures ∙ c.unwrap-planned.ensures in
-    let two : slice_get undo place ≡ Some c.index-undo-place.result =
-    slice_get-get_or undo place c.index-undo-place.result also ∙ ap (λ (w : PlannedWrite). Some w) (sym c.index-undo-place.is) in
+    let two : slice_get undo place ≡ Some c.unwrap-back.result = sym c.get-in-loop-place.ensures ∙ c.unwrap-back.ensures in
     let write : slice_get (as_writes entries rewrites writes) place ≡ Some c.write_of-write.result =
     slice_get-map (as_write entries rewrites) writes place ∙ (ap (λ (some : Option PlannedWrite). option_map (as_write entries rewrites) some) one ∙ ap (λ (w : Write). Some w) (sym c.write_of-write.ensures)) in
     let before : slice_get (as_writes entries rewrites undo) place ≡ Some c.write_of-before.result =
@@ -39,7 +38,7 @@ loop-place-preserved c =
 pub returns : goal.returns
 returns c =
     let writes = all_writes c.args.writes.now in
-    let undo = c.args.undo.now in
+    let undo = all_undo c.args.undo.now in
     let entries = c.args.live.now.entries in
     let rewrites = c.args.rewrites.now in
     let place = c.loop-place.place in

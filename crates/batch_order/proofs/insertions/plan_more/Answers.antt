@@ -1,16 +1,19 @@
-use Rattle.std.proofs.Common.{rules, ◌≡◌, ◌≤◌, ◌+◌, ◌-◌, ◌++◌, [], ◌∷◌, length, take, drop, suc, subst, sym, ap, ◌∙◌, arith, List, ℕ, ap₂, append_assoc}
+use Rattle.std.proofs.Common.{rules, ◌≡◌, ◌≤◌, ◌+◌, ◌-◌, ◌++◌, [], ◌∷◌, length, take, drop, suc, subst, sym, ap, ◌∙◌, arith, List, ℕ, IsTrue, ap₂, append_assoc}
 use Rattle.std.specs.Prelude.{vec_capacity}
 use Rattle.std.proofs.lemmas.Grind.{common_steps}
 use Rattle.std.proofs.lemmas.List.{map-append, take_all}
 use Rattle.rule_model.specs.Entry.{RankedPiece}
 use Rattle.placement.specs.declared.LivePiece.{LivePiece}
-use Rattle.batch_order.specs.Entries.{Entries, AddsIds}
+use Rattle.batch_order.specs.Entries.{Entries, AddsIds, KeepEntries}
 use Rattle.placement.specs.declared.Aim.{Aim}
+use Rattle.placement.specs.Live.{is_live}
 use Rattle.placement.specs.Placement.{Aiming}
 use Rattle.batch_order.specs.Placing.{aim_of, aims_from}
 use Rattle.batch_order.specs.Planning.{ArePlannedSince, IsPlannable}
+use Rattle.batch_order.proofs.back.Gained.{notes_none, notes_then}
 use Rattle.batch_order.proofs.planning.Aimed.{aims_next, length-aims}
-use Rattle.batch_order.proofs.planning.Since.{planned_then}
+use Rattle.batch_order.proofs.planning.Refused.{adds_first, kept_back}
+use Rattle.batch_order.proofs.planning.Since.{live_more, planned_then}
 use Rattle.commit_writes.proofs.Walked.{take_next}
 use Rattle.batch_order.proofs.insertions.plan_more.Goals as goal
 
@@ -58,6 +61,7 @@ loop-ranked-preserved c =
       room,
       subst (λ (pieces : List RankedPiece). ArePlannedSince c.args.live.now c.plan_piece.new.live c.args.arrangement.now c.plan_piece.new.arrangement c.args.plan.now c.plan_piece.new.plan pieces (take (c.loop-ranked.ranked-index + 1) all_aims)) (sym more)
           (subst (ArePlannedSince c.args.live.now c.plan_piece.new.live c.args.arrangement.now c.plan_piece.new.arrangement c.args.plan.now c.plan_piece.new.plan (some ++ one ∷ [])) aims planned),
+      notes_then c.args.arrangement.now c.loop-ranked.arrangement c.plan_piece.new.arrangement c.args.plan.now c.loop-ranked.plan c.plan_piece.new.plan was.5 c.plan_piece.ensures.noted,
     )
 
 pub returns-clause-planned : goal.returns-clause-planned
@@ -81,3 +85,26 @@ returns-clause-planned c =
     (aims_from c.args.placement c.args.mode (length c.args.arrangement.now) set (length c.args.live.now.live + length pieces) c.args.made pieces))
     (take_all c.loop-ranked.ranked-index pieces past)
     (subst (ArePlannedSince c.args.live.now c.loop-ranked.live c.args.arrangement.now c.loop-ranked.arrangement c.args.plan.now c.loop-ranked.plan (take c.loop-ranked.ranked-index pieces)) aims was.4)
+
+pub returns-in_err-ranks-clause-noted : goal.returns-in_err-ranks-clause-noted
+returns-in_err-ranks-clause-noted c = notes_none c.args.arrangement.now c.args.plan.now
+
+pub returns-in_err-ids-clause-noted : goal.returns-in_err-ids-clause-noted
+returns-in_err-ids-clause-noted c = notes_none c.args.arrangement.now c.args.plan.now
+
+pub returns-in-Err-clause-noted : goal.returns-in-Err-clause-noted
+returns-in-Err-clause-noted c =
+    notes_then c.args.arrangement.now c.loop-ranked.arrangement c.plan_piece.new.arrangement c.args.plan.now c.loop-ranked.plan c.plan_piece.new.plan c.loop-ranked.invariant.5 c.plan_piece.ensures.noted
+
+-- what was live before keeps its entry where the new ids are forgotten
+kept_then : (old mid new end : Entries) (ids : List ℕ) → AddsIds old mid ids → KeepEntries old.live old.entries mid.entries → new.live ≡ mid.live → KeepEntries mid.live mid.entries new.entries
+    → end.live ≡ take (length new.live - length ids) new.live → KeepEntries end.live new.entries end.entries → KeepEntries old.live old.entries end.entries
+kept_then old mid new end ids adds first same second back third =
+    kept_back old new end (λ id now. second id (subst (λ (l : List LivePiece). IsTrue (is_live l id)) (sym adds.live) (live_more old.live adds.made id now)) ∙ first id now) third
+    (back ∙ (ap (λ (l : List LivePiece). take (length l - length ids) l) same ∙ adds_first old mid ids adds))
+
+pub returns-in-Err-clause-kept : goal.returns-in-Err-clause-kept
+returns-in-Err-clause-kept c =
+    let was = c.loop-ranked.invariant in
+    kept_then c.args.live.now c.loop-ranked.live c.plan_piece.new.live c.forget_all.new.live c.loop-ranked.ids.items was.1 was.4.kept c.in-Err.ensures.refused c.plan_piece.ensures.kept
+    c.forget_all.ensures.live c.forget_all.ensures.kept

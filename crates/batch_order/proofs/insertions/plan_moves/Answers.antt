@@ -1,4 +1,4 @@
-use Rattle.std.proofs.Common.{◌≡◌, ◌+◌, ◌<◌, ◌∙◌, ◌++◌, List, ℕ, drop, length, map, max, arith, subst, sym, ap}
+use Rattle.std.proofs.Common.{◌≡◌, ◌+◌, ◌<◌, ◌∙◌, ◌++◌, List, ℕ, drop, length, map, max, arith, refl, subst, sym, ap}
 use Rattle.std.specs.List.{AllByRecursion}
 use Rattle.std.proofs.lemmas.List.{length-append, take_all}
 use Rattle.slot_order.proofs.Lists.{all_append}
@@ -12,7 +12,9 @@ use Rattle.batch_order.specs.ByParts.{insertion_parts, moves_put}
 use Rattle.batch_order.specs.Entries.{Entries}
 use Rattle.batch_order.specs.declared.planned_writes.PlannedWrite.TheVariants.{Moved}
 use Rattle.batch_order.specs.declared.planned_writes.PlannedWrites.{PlannedWrites}
-use Rattle.batch_order.specs.Planning.{IsInside, IsLastLive, IsWithin, all_writes}
+use Rattle.batch_order.specs.declared.undoing.PlannedUndo.{PlannedUndo}
+use Rattle.move_planner.specs.Noted.{AreNoted, IsInside}
+use Rattle.batch_order.specs.Planning.{IsLastLive, IsWithin, all_writes}
 use Rattle.batch_order.proofs.arranged.Inside.{moves_inside}
 use Rattle.batch_order.proofs.Listed.{more_moved}
 use Rattle.batch_order.proofs.planning.Meant.{moves_within}
@@ -106,4 +108,15 @@ returns c =
             ∙ ap (λ (n : ℕ). max c.args.plan.now.most_parts (insertion_parts n))
             (c.puts_from-puts.ensures ∙ ap (λ (n : ℕ). moves_put (drop n c.plan_insert.new.plan)) c.len-first.ensures.count);
       };
+      noted = record {
+        moves = subst (λ (writes : PlannedWrites). AreNoted slots c.plan_insert.new.slots old.moves writes.moves c.args.plan.now.undo.moves c.count.new.self.undo.moves) (sym c.count.ensures.writes)
+            (subst (λ (undo : PlannedUndo). AreNoted slots c.plan_insert.new.slots old.moves c.plan_insert.new.plan c.args.plan.now.undo.moves undo.moves) (sym c.count.ensures.undo) c.plan_insert.ensures.noted);
+        words = ap (λ (writes : PlannedWrites). writes.words.items) c.count.ensures.writes;
+        changes = ap (λ (writes : PlannedWrites). writes.changes.items) c.count.ensures.writes;
+        undo_words = ap (λ (undo : PlannedUndo). undo.words.items) c.count.ensures.undo;
+        undo_changes = ap (λ (undo : PlannedUndo). undo.changes) c.count.ensures.undo;
+      };
     }
+
+pub returns-in_err-insert-clause-noted : goal.returns-in_err-insert-clause-noted
+returns-in_err-insert-clause-noted c = record { moves = c.plan_insert.ensures.noted; words = refl; changes = refl; undo_words = refl; undo_changes = refl }

@@ -3,6 +3,7 @@ use Rattle.placement.specs.declared.LivePiece.{LivePiece}
 use Rattle.placement.specs.Live.{is_live, without_id}
 use Rattle.rule_model.specs.Entry.{RankedPiece}
 use Rattle.batch_order.specs.Planning.{ArePlannedSince}
+use Rattle.batch_order.proofs.back.Gained.{notes_none}
 use Rattle.batch_order.proofs.planning.Since.{planned_one}
 use Rattle.batch_order.proofs.arranged.Entered.{kept_set}
 use Rattle.batch_order.proofs.arranged.Settled.{last_live, live_new, without_last}
@@ -34,3 +35,6 @@ returns-in-Ok-clause-planned c =
     subst (λ (ranked : RankedPiece). ArePlannedSince c.args.live.now c.add.new.self c.args.arrangement.now c.plan_moves.new.arrangement c.args.plan.now c.plan_moves.new.plan (ranked ∷ []) (record { aim = c.args.aim; coming = c.args.coming.now } ∷ [])) c.ranked.view_is
     (planned_one c.args.live.now c.add.new.self c.args.arrangement.now c.plan_moves.new.arrangement one c.ranked.inside.result (record { aim = c.args.aim; coming = c.args.coming.now }) c.args.plan.now c.plan_moves.new.plan c.in_ok-id.ensures.absent c.in_ok-id.ensures.live
     c.in_ok-id.ensures.entry (rw c.in_ok-id.ensures.entries kept) c.in-Ok.ensures.inserted)
+
+pub returns-in_err-id-clause-noted : goal.returns-in_err-id-clause-noted
+returns-in_err-id-clause-noted c = notes_none c.args.arrangement.now c.args.plan.now

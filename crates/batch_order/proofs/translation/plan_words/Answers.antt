@@ -1,5 +1,6 @@
 use Rattle.std.proofs.Common.{rules, ◌≡◌, ◌+◌, ◌*◌, ◌^◌, ◌≤◌, ◌++◌, Some, None, Option, List, [], length, map, refl, sym, ap, arith, ◌∙◌}
 use Rattle.rule_store.specs.declared.Command.{Command}
+use Rattle.rule_store.specs.declared.Mode.TheVariants.{Cover, Bits}
 use Rattle.commit_writes.specs.Bits.{new_bits}
 use Rattle.commit_writes.specs.Shape.{bit_writes}
 use Rattle.commit_writes.proofs.NoBits.{bit_writes-none}
@@ -9,7 +10,7 @@ use Rattle.batch_order.specs.declared.planned_writes.PlannedWrite.{PlannedWrite}
 use Rattle.batch_order.specs.declared.planned_writes.PlannedWrite.TheVariants.{Tabled, Moved}
 use Rattle.batch_order.proofs.Listed.{count_words, none_of, only_words}
 use Rattle.batch_order.specs.declared.translation.Translation.{Translation}
-use Rattle.batch_order.specs.Kept.{bits_of, needed_by, tables_of}
+use Rattle.batch_order.specs.Kept.{bits_of, mode_of, needed_by, tables_of}
 use Rattle.batch_order.proofs.translation.plan_words.Goals as goal
 
 -- by covers no word is written
@@ -54,3 +55,19 @@ returns-clause-few c =
     let few = few_words old.words.items c.plan_words.new.words.items old.moves old.changes.items c.requires.empty c.in_ok-plan_words.ensures.most in
     let count = count_words old.words.items c.plan_words.new.words.items old.moves old.changes.items c.requires.empty in
     omega arith
+
+pub returns-in_default-clause-begins : goal.returns-in_default-clause-begins
+returns-in_default-clause-begins c =
+    let old = c.args.plan.now.writes in
+    let none = none_of old.words.items old.moves old.changes.items c.requires.empty in
+    record { covers = λ cover. none.words_are; no_moves = none.moves_are; unnoted = c.requires.unnoted }
+
+pub returns-clause-begins : goal.returns-clause-begins
+returns-clause-begins c =
+    let old = c.args.plan.now.writes in
+    let none = none_of old.words.items old.moves old.changes.items c.requires.empty in
+    record {
+      covers = λ cover. absurd (let bits : Cover ≡ Bits = sym cover ∙ ap mode_of c.in-Some.is in cc);
+      no_moves = none.moves_are;
+      unnoted = c.requires.unnoted;
+    }

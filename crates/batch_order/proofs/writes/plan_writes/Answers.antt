@@ -1,54 +1,74 @@
-use Rattle.std.proofs.Common.{◌≡◌, ℕ, IsTrue, List, length, sym, ap, subst, ◌∙◌}
+use Rattle.std.proofs.Common.{◌≡◌, ◌++◌, ℕ, IsTrue, List, Contains, length, map, Some, sym, ap, subst, ◌∙◌}
 use Rattle.std.specs.List.{AllByRecursion}
+use Rattle.slot_order.specs.Order.{slot}
+use Rattle.slot_order.proofs.Lists.{AllByRecursion-member, all_append}
+use Rattle.slot_pool.specs.Arrangement.{Slots}
 use Rattle.placement.specs.declared.LivePiece.{LivePiece}
+use Rattle.placement.specs.declared.Move.{Move}
 use Rattle.placement.specs.Live.{is_live}
 use Rattle.rule_store.specs.Verdict.{entries_of}
 use Rattle.rule_store.specs.declared.Mode.{Mode}
-use Rattle.batch_order.specs.Planning.{IsWithin, all_writes}
+use Rattle.move_planner.specs.Noted.{IsInside, backs_of}
+use Rattle.commit_writes.specs.declared.Rewrite.{Rewrite}
+use Rattle.commit_writes.specs.PlannedBatch.{home_slot}
+use Rattle.batch_order.specs.Entries.{AddsIds, Entries}
+use Rattle.batch_order.specs.Noting.{changed_ids}
+use Rattle.batch_order.specs.Planning.{IsSettled, IsWithin, all_writes}
 use Rattle.batch_order.proofs.arranged.Cleared.{all_stand}
+use Rattle.batch_order.proofs.back.Noted.{all_restored, all_taken, ids_all, stands_home}
+use Rattle.batch_order.proofs.back.TakenBack.{noted_inside}
 use Rattle.batch_order.proofs.planning.Leading.{changed_stand, still_changed, still_live}
 use Rattle.batch_order.proofs.planning.Refused.{adds_first, kept_back}
 use Rattle.batch_order.proofs.writes.plan_writes.Goals as goal
 
 pub plan_additions-requires : goal.plan_additions-requires
 plan_additions-requires c = record {
-  standing = c.requires.standing ∙ ap (λ (m : Mode). entries_of m c.args.rules.now.rules) (sym c.encoding.ensures);
+  standing = c.requires.standing ∙ ap (λ (m : Mode). entries_of m c.args.rules.now.rules) (sym c.encoding-mode.ensures);
   room = rw c.deref.ensures.value c.requires.room;
   encodable = rw c.deref.ensures.value c.requires.encodable;
   plannable = c.requires.plannable;
 }
 
-pub plan_changes-requires : goal.plan_changes-requires
-plan_changes-requires c =
-    let live = c.args.live.now.live in
+-- what is rewritten and what is erased are live ids, with the new ones too,
+changed_live : (old new : Entries) (ids : List ℕ) (rewrites : List Rewrite) → AddsIds old new ids → AllByRecursion (λ rewrite. IsTrue (is_live old.live rewrite.id)) rewrites
+    → AllByRecursion (λ rewrite. IsTrue (is_live new.live rewrite.id)) rewrites
+changed_live old new ids rewrites adds live =
+    subst (λ (l : List LivePiece). AllByRecursion (λ rewrite. IsTrue (is_live l rewrite.id)) rewrites) (sym adds.live) (still_changed old.live adds.made rewrites live)
+
+gone_live : (old new : Entries) (ids erased : List ℕ) → AddsIds old new ids → AllByRecursion (λ id. IsTrue (is_live old.live id)) erased → AllByRecursion (λ id. IsTrue (is_live new.live id)) erased
+gone_live old new ids erased adds live = subst (λ (l : List LivePiece). AllByRecursion (λ id. IsTrue (is_live l id)) erased) (sym adds.live) (still_live old.live adds.made erased live)
+
+-- and each of them stands at its home
+stand : (old new : Entries) (slots : Slots) (ids : List ℕ) (rewrites : List Rewrite) (erased : List ℕ) → AddsIds old new ids → IsSettled new slots
+    → AllByRecursion (λ rewrite. IsTrue (is_live old.live rewrite.id)) rewrites → AllByRecursion (λ id. IsTrue (is_live old.live id)) erased
+    → (id : ℕ) → Contains (changed_ids rewrites erased) id → slot slots (home_slot slots id) ≡ Some id
+stand old new slots ids rewrites erased adds settled rewritten gone id member =
+    let live = all_append (λ id. IsTrue (is_live new.live id)) (map (λ (rewrite : Rewrite). rewrite.id) rewrites) erased
+    (ids_all (λ id. IsTrue (is_live new.live id)) rewrites (changed_live old new ids rewrites adds rewritten)) (gone_live old new ids erased adds gone) in
+    stands_home new slots id settled (AllByRecursion-member (λ id. IsTrue (is_live new.live id)) (changed_ids rewrites erased) id live member)
+
+pub plan_behind-requires : goal.plan_behind-requires
+plan_behind-requires c =
     let new = c.plan_additions.new.live in
-    let adds = c.in_ok-ids.ensures.adds in
-    let plannable = c.in_ok-ids.ensures.plannable in
+    let plannable = c.in-Ok.ensures.plannable in
     let parts = c.args.parts.now in
-    let changed : AllByRecursion (λ rewrite. IsTrue (is_live new.live rewrite.id)) parts.rewrites.items =
-    subst (λ (l : List LivePiece). AllByRecursion (λ rewrite. IsTrue (is_live l rewrite.id)) parts.rewrites.items) (sym adds.live) (still_changed live adds.made parts.rewrites.items c.requires.rewritten) in
-    let gone : AllByRecursion (λ id. IsTrue (is_live new.live id)) parts.erased.items =
-    subst (λ (l : List LivePiece). AllByRecursion (λ id. IsTrue (is_live l id)) parts.erased.items) (sym adds.live) (still_live live adds.made parts.erased.items c.requires.erased) in
+    let noted = c.plan_additions.ensures.noted in
     record {
       few = c.requires.few;
-      rewritten = changed_stand new c.plan_additions.new.arrangement parts.rewrites.items plannable.settled changed;
-      erased = all_stand new c.plan_additions.new.arrangement parts.erased.items plannable.settled gone;
+      rewritten = changed_stand new c.plan_additions.new.arrangement parts.rewrites.items plannable.settled (changed_live c.args.live.now new c.in-Ok.ids.items parts.rewrites.items c.in-Ok.ensures.adds c.requires.rewritten);
+      erased = all_stand new c.plan_additions.new.arrangement parts.erased.items plannable.settled (gone_live c.args.live.now new c.in-Ok.ids.items parts.erased.items c.in-Ok.ensures.adds c.requires.erased);
       within = subst (λ (n : ℕ). AllByRecursion (IsWithin n) (all_writes c.plan_additions.new.plan.writes)) (sym plannable.settled.size) plannable.within;
+      covers = λ cover. noted.words ∙ c.requires.begins.covers cover;
+      unnoted = noted.undo_words ∙ c.requires.begins.unnoted.no_words;
     }
 
-pub plan_undo-requires : goal.plan_undo-requires
-plan_undo-requires c =
-    let size : length c.plan_additions.new.arrangement ≡ length c.args.before.now =
-    c.in_ok-ids.ensures.plannable.settled.size ∙ c.plan_additions.ensures.slots ∙ sym c.requires.size in
-    record { within = subst (λ (n : ℕ). AllByRecursion (IsWithin n) (all_writes c.plan_changes.new.plan.writes)) size c.in-Ok.ensures.within }
-
-pub returns-in-Ok-plan_undo-clause-planned : goal.returns-in-Ok-plan_undo-clause-planned
-returns-in-Ok-plan_undo-clause-planned c =
-    let first = c.in_ok-ids.ensures in
-    let rest = c.in-Ok.ensures in
+pub returns-in-Ok-plan_behind-clause-planned : goal.returns-in-Ok-plan_behind-clause-planned
+returns-in-Ok-plan_behind-clause-planned c =
+    let first = c.in-Ok.ensures in
+    let rest = c.in-Ok-plan_behind.ensures.changed in
     record {
       between = c.plan_additions.new.plan;
-      inserted = rw (c.deref.ensures.value, c.encoding.ensures) at first.planned;
+      inserted = rw (c.deref.ensures.value, c.encoding-mode.ensures) at first.planned;
       settled = first.plannable.settled;
       within = rest.within;
       writes = rest.writes;
@@ -58,10 +78,40 @@ returns-in-Ok-plan_undo-clause-planned c =
       most_parts = rest.most_parts;
     }
 
-pub returns-in-Ok-plan_undo-clause-undo : goal.returns-in-Ok-plan_undo-clause-undo
-returns-in-Ok-plan_undo-clause-undo c = c.in-Ok-plan_undo.ensures
+pub returns-in-Ok-plan_behind-clause-undo : goal.returns-in-Ok-plan_behind-clause-undo
+returns-in-Ok-plan_behind-clause-undo c =
+    all_restored c.args.translation.now c.args.arrangement.now c.plan_additions.new.arrangement c.args.plan.now c.plan_additions.new.plan c.plan_behind.new.plan c.args.parts.now.rewrites.items c.args.parts.now.erased.items
+    c.requires.begins c.requires.plannable.no_changes c.plan_additions.ensures.noted c.in-Ok-plan_behind.ensures.changed c.in-Ok-plan_behind.ensures.noted c.plan_behind.ensures.moves c.requires.apart (stand c.args.live.now c.plan_additions.new.live c.plan_additions.new.arrangement c.in-Ok.ids.items c.args.parts.now.rewrites.items c.args.parts.now.erased.items c.in-Ok.ensures.adds c.in-Ok.ensures.plannable.settled c.requires.rewritten c.requires.erased)
 
-pub returns-in-Err-plan_undo-clause-kept : goal.returns-in-Err-plan_undo-clause-kept
-returns-in-Err-plan_undo-clause-kept c =
-    kept_back c.args.live.now c.plan_additions.new.live c.forget_all-in-Err-plan_undo.new.live c.plan_additions.ensures.kept c.forget_all-in-Err-plan_undo.ensures.kept
-    (c.forget_all-in-Err-plan_undo.ensures.live ∙ adds_first c.args.live.now c.plan_additions.new.live c.in_ok-ids.ids.items c.in_ok-ids.ensures.adds)
+pub returns-in-Ok-plan_behind-clause-takes_back : goal.returns-in-Ok-plan_behind-clause-takes_back
+returns-in-Ok-plan_behind-clause-takes_back c =
+    all_taken c.args.translation.now c.args.arrangement.now c.plan_additions.new.arrangement c.args.plan.now c.plan_additions.new.plan c.plan_behind.new.plan c.args.parts.now.rewrites.items c.args.parts.now.erased.items
+    c.requires.begins c.requires.plannable.no_changes c.plan_additions.ensures.noted c.in-Ok-plan_behind.ensures.changed c.in-Ok-plan_behind.ensures.noted c.plan_behind.ensures.moves c.requires.apart (stand c.args.live.now c.plan_additions.new.live c.plan_additions.new.arrangement c.in-Ok.ids.items c.args.parts.now.rewrites.items c.args.parts.now.erased.items c.in-Ok.ensures.adds c.in-Ok.ensures.plannable.settled c.requires.rewritten c.requires.erased)
+    c.plan_additions.new.live c.in-Ok.ensures.plannable.settled (gone_live c.args.live.now c.plan_additions.new.live c.in-Ok.ids.items c.args.parts.now.erased.items c.in-Ok.ensures.adds c.requires.erased)
+
+pub returns-in-Err-plan_behind-clause-kept : goal.returns-in-Err-plan_behind-clause-kept
+returns-in-Err-plan_behind-clause-kept c =
+    kept_back c.args.live.now c.plan_additions.new.live c.forget_all.new.live c.plan_additions.ensures.kept c.forget_all.ensures.kept
+    (c.forget_all.ensures.live ∙ adds_first c.args.live.now c.plan_additions.new.live c.in-Ok.ids.items c.in-Ok.ensures.adds)
+
+-- what is noted of the moves takes the arrangement back
+pub returns-in-Err-plan_behind-clause-back : goal.returns-in-Err-plan_behind-clause-back
+returns-in-Err-plan_behind-clause-back c =
+    let noted = c.plan_additions.ensures.noted.moves in
+    c.take_back.ensures.back c.args.arrangement.now noted.moves noted.after
+    (c.plan_behind.ensures.moves ∙ (noted.noted ∙ ap (λ (some : List Move). some ++ backs_of c.args.arrangement.now noted.moves) c.requires.begins.unnoted.no_moves))
+
+pub returns-in-Err-clause-back : goal.returns-in-Err-clause-back
+returns-in-Err-clause-back c =
+    let noted = c.plan_additions.ensures.noted.moves in
+    c.take_back-in-Err.ensures.back c.args.arrangement.now noted.moves noted.after
+    (noted.noted ∙ ap (λ (some : List Move). some ++ backs_of c.args.arrangement.now noted.moves) c.requires.begins.unnoted.no_moves)
+
+pub take_back-requires : goal.take_back-requires
+take_back-requires c =
+    let noted = c.plan_additions.ensures.noted.moves in
+    subst (AllByRecursion (IsInside (length c.plan_additions.new.arrangement))) (sym c.plan_behind.ensures.moves)
+    (noted_inside _ _ _ _ _ _ noted c.requires.begins.unnoted.no_moves)
+
+pub take_back-requires-in-Err : goal.take_back-requires-in-Err
+take_back-requires-in-Err c = noted_inside _ _ _ _ _ _ c.plan_additions.ensures.noted.moves c.requires.begins.unnoted.no_moves

@@ -7,6 +7,7 @@ use Rattle.move_planner.specs.declared.sides.Sides.{Sides}
 use Rattle.move_planner.specs.declared.crossings.Cut.{Cut}
 use Rattle.placement.specs.Placement.{Above}
 use Rattle.move_planner.specs.Steps.{FindsPasser, EarlyPasses, LatePasses, NonePass, OnePassed}
+use Rattle.move_planner.proofs.Noted.{noted_none}
 use Rattle.move_planner.proofs.Underway.{passer_shifts, passer_passed}
 use Rattle.move_planner.proofs.crossings.pass_one.Goals as goal
 
@@ -32,3 +33,9 @@ returns-clause-passed c = λ id behind before w.
     (passer_passed c.args.index.now id behind before c.args.slots.now c.args.sides.now c.args.cut w c.turn.new.slots c.args.plan.now c.turn.new.plan c.in-Some.chain c.first.result
     (passes (is_above c.args.index.now.live) behind before c.args.slots.now c.args.sides.now c.args.cut c.in_ok-chain.field-0 c.in-Some.chain c.in-Some.is (c.in_ok-chain.ensures id behind before w))
     c.first.ensures c.in_ok-turn.ensures.turned)
+
+pub returns-in_err-chain-clause-noted : goal.returns-in_err-chain-clause-noted
+returns-in_err-chain-clause-noted c = noted_none c.args.slots.now c.args.plan.now c.args.undo.now
+
+pub returns-in_default-clause-noted : goal.returns-in_default-clause-noted
+returns-in_default-clause-noted c = noted_none c.args.slots.now c.args.plan.now c.args.undo.now

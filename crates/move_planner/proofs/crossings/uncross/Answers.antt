@@ -6,6 +6,7 @@ use Rattle.move_planner.specs.Made.{moves_made}
 use Rattle.move_planner.specs.declared.sides.Sides.{Sides}
 use Rattle.move_planner.specs.declared.crossings.Cut.{Cut}
 use Rattle.move_planner.specs.Steps.{MayPass, OnePassed, NonePasses, AreFoundSides}
+use Rattle.move_planner.proofs.Noted.{noted_none, noted_then}
 use Rattle.move_planner.proofs.Outcomes.{on_err}
 use Rattle.placement.proofs.Readied.{start_inside}
 use Rattle.placement.proofs.Reach.{is_behind, is_before}
@@ -30,6 +31,7 @@ loop-sides-init c =
       begun = w;
       best = c.best_boundary-boundary.ensures;
       turns = uncrossing_none c.args.index.now c.args.id c.args.slots.now c.args.plan.now c.in_ok-sides.sides c.best_boundary-boundary.result w c.best_boundary-boundary.ensures;
+      noted = noted_none c.args.slots.now c.args.plan.now c.args.undo.now;
     }
 
 pub returns-in_err-next-clause-made : goal.returns-in_err-next-clause-made
@@ -50,6 +52,7 @@ loop-sides-preserved c =
       best = c.loop-sides.invariant.best;
       turns = uncrossing_more c.args.index.now c.args.id c.args.slots.now c.loop-sides.slots c.pass_one.new.slots c.args.plan.now c.loop-sides.plan c.pass_one.new.plan c.in_ok-sides.sides
           c.best_boundary-boundary.result c.loop-sides.cut c.in-Some.next c.loop-sides.invariant.turns one;
+      noted = noted_then c.args.slots.now c.loop-sides.slots c.pass_one.new.slots c.args.plan.now c.loop-sides.plan c.pass_one.new.plan c.args.undo.now c.loop-sides.undo c.pass_one.new.undo c.loop-sides.invariant.noted c.pass_one.ensures.noted;
     }
 
 -- none passed
@@ -66,3 +69,14 @@ returns-clause-uncrossed c =
     uncrossed_all c.args.index.now c.args.id c.args.slots.now c.loop-sides.slots c.pass_one.new.slots c.args.plan.now c.loop-sides.plan c.pass_one.new.plan c.in_ok-sides.sides
     c.best_boundary-boundary.result c.loop-sides.cut c.loop-sides.invariant.begun c.loop-sides.invariant.best c.loop-sides.invariant.turns
     (none_passed c.args.index.now c.args.id b f c.loop-sides.slots c.pass_one.new.slots c.loop-sides.plan c.pass_one.new.plan c.in_ok-sides.sides c.loop-sides.cut c.in_ok-next.field-0 c.in_default.not-Some m)
+
+pub returns-in_err-sides-clause-noted : goal.returns-in_err-sides-clause-noted
+returns-in_err-sides-clause-noted c = noted_none c.args.slots.now c.args.plan.now c.args.undo.now
+
+pub returns-in_err-next-clause-noted : goal.returns-in_err-next-clause-noted
+returns-in_err-next-clause-noted c =
+    noted_then c.args.slots.now c.loop-sides.slots c.pass_one.new.slots c.args.plan.now c.loop-sides.plan c.pass_one.new.plan c.args.undo.now c.loop-sides.undo c.pass_one.new.undo c.loop-sides.invariant.noted c.pass_one.ensures.noted
+
+pub returns-clause-noted : goal.returns-clause-noted
+returns-clause-noted c =
+    noted_then c.args.slots.now c.loop-sides.slots c.pass_one.new.slots c.args.plan.now c.loop-sides.plan c.pass_one.new.plan c.args.undo.now c.loop-sides.undo c.pass_one.new.undo c.loop-sides.invariant.noted c.pass_one.ensures.noted

@@ -1,4 +1,5 @@
 use Rattle.std.proofs.Common.{◌+◌, ◌-◌}
+use Rattle.move_planner.specs.Noted.{AreNoted}
 use Rattle.move_planner.proofs.Begun.{IsBegun}
 use Rattle.move_planner.proofs.Uncrossing.{IsUncrossing}
 use Rattle.move_planner.specs.Boundary.{IsBestTo}
@@ -10,6 +11,7 @@ invariant-loop-sides l = record {
   begun : IsBegun l.index l.id l.fn.slots l.sides;
   best : IsBestTo l.fn.slots l.sides l.sides.end l.boundary;
   turns : IsUncrossing l.index l.id l.fn.slots l.slots l.fn.plan l.plan l.sides l.boundary l.cut;
+  noted : AreNoted l.fn.slots l.slots l.fn.plan l.plan l.fn.undo l.undo;
 }
 
 abbrev pub decreases-loop-sides : goal.decreases-loop-sides

@@ -2,7 +2,9 @@ use Rattle.std.proofs.Common.{◌≤◌, [], ◌∷◌, ◌++◌, length, inl, s
 use Rattle.placement.specs.declared.Move.TheVariants.{Put}
 use Rattle.placement.specs.Live.{is_above}
 use Rattle.placement.specs.Placement.{after_move}
-use Rattle.move_planner.proofs.Outcomes.{on_ok_both}
+use Rattle.move_planner.proofs.Noted.{noted_none, noted_then}
+use Rattle.move_planner.proofs.Outcomes.{on_err, on_ok_both}
+use Rattle.move_planner.proofs.Shifted.{made_by}
 use Rattle.placement.proofs.Readied.{end_inside}
 use Rattle.move_planner.proofs.Landings.{landed_shifts}
 use Rattle.move_planner.proofs.Ways.{way_shifts}
@@ -45,3 +47,22 @@ pub way-requires-clause-full : goal.way-requires-clause-full
 way-requires-clause-full c =
     let above = is_above c.args.index.now.live in
     (c.args.aim, chosen above c.args.aim c.args.slots.now c.args.id _ _ _ c.requires.start c.requires.end c.choose.ensures ∙ no_slot c.choose.result c.in_default.not-Some)
+
+pub returns-in_err-chain-clause-noted : goal.returns-in_err-chain-clause-noted
+returns-in_err-chain-clause-noted c = noted_none c.args.slots.now c.args.plan.now c.args.undo.now
+
+pub returns-clause-noted : goal.returns-clause-noted
+returns-clause-noted c =
+    noted_then c.args.slots.now c.shift.new.slots c.make-2.new.slots c.args.plan.now c.shift.new.plan c.make-2.new.self c.args.undo.now c.shift.new.undo c.make-2.new.undo c.shift.ensures.noted c.make-2.ensures.noted
+
+-- what is noted is made
+pub returns-in-Some-clause-made : goal.returns-in-Some-clause-made
+returns-in-Some-clause-made c =
+    let noted = c.make.ensures.noted in
+    on_err _ c.make.result (made_by c.args.slots.now c.make.new.slots c.args.plan.now c.make.new.self noted.moves noted.gained noted.after)
+
+pub returns-clause-made : goal.returns-clause-made
+returns-clause-made c =
+    let noted =
+    noted_then c.args.slots.now c.shift.new.slots c.make-2.new.slots c.args.plan.now c.shift.new.plan c.make-2.new.self c.args.undo.now c.shift.new.undo c.make-2.new.undo c.shift.ensures.noted c.make-2.ensures.noted in
+    on_err _ c.make-2.result (made_by c.args.slots.now c.make-2.new.slots c.args.plan.now c.make-2.new.self noted.moves noted.gained noted.after)

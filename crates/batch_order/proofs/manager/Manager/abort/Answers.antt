@@ -4,7 +4,8 @@ use Rattle.batch_order.specs.declared.AbortFault.TheVariants as abort_fault
 use Rattle.batch_order.specs.Kept.{IsManaged}
 use Rattle.batch_order.specs.Managed.{Managed}
 use Rattle.batch_order.specs.Steps.{Aborts}
-use Rattle.batch_order.proofs.back.Aborted.{KeepsOn, aborts_by, keeps_on, managed_by}
+use Rattle.batch_order.specs.Undoing.{StandsAt}
+use Rattle.batch_order.proofs.back.Aborted.{IsTurnedBy, KeepsOn, aborts_by, keeps_on, managed_by, stands_turned}
 use Rattle.batch_order.proofs.under_way.Carried.{view_of}
 use Rattle.batch_order.proofs.manager.Manager.abort.Goals as goal
 use Rattle.batch_order.proofs.manager.Manager.abort.Goals.{in-None, in-Some}
@@ -15,9 +16,13 @@ invariant_of-self c = elim c.match-self.branch [
   | in-Some w ↦
       let i = c.self.inside in
       let held = w.in-Some.held in
-      let managed = subst (IsManaged i.translation i.rules i.live i.arrangement) w.in-Some.is c.self.invariant in
-      rw w.self-inside-is (managed_by i.translation i.rules i.live i.arrangement held managed i.placement w.turn.result w.turn.new.self
-      record { restarted = w.turn.ensures.restarted; turns = w.turn.ensures.turns; stays = w.turn.ensures.stays })
+      let managed = subst (IsManaged i.translation i.rules i.live i.arrangement) w.in-Some.is c.self.invariant.0 in
+      let turns : IsTurnedBy i.translation i.rules i.live i.arrangement held managed i.placement w.turn.result w.turn.new.self =
+      record { restarted = w.turn.ensures.restarted; turns = w.turn.ensures.turns; stays = w.turn.ensures.stays } in
+      rw w.self-inside-is (
+        managed_by i.translation i.rules i.live i.arrangement held managed i.placement w.turn.result w.turn.new.self turns,
+        stands_turned i.translation i.rules i.live i.arrangement held managed i.placement i.arrangement i.planned w.turn.result w.turn.new.self turns (subst (StandsAt i.arrangement i.planned) w.in-Some.is c.self.invariant.1),
+      )
 ]
 
 pub returns-clause-aborts : goal.returns-clause-aborts
@@ -30,7 +35,7 @@ returns-clause-aborts c = elim c.match-self.branch [
   | in-Some w ↦
       let i = c.self.inside in
       let held = w.in-Some.held in
-      let managed = subst (IsManaged i.translation i.rules i.live i.arrangement) w.in-Some.is c.self.invariant in
+      let managed = subst (IsManaged i.translation i.rules i.live i.arrangement) w.in-Some.is c.self.invariant.0 in
       let view : view_of i.placement i.translation i.rules i.live i.arrangement i.held ≡ c.args.self.now = c.self.view_is in
       let new = view_of i.placement i.translation i.rules i.live i.arrangement (Some w.turn.new.self) in
       rw (w.self-inside-is, w.result-is) (subst (λ (old : Managed). Aborts old old.held w.turn.result new) view

@@ -11,7 +11,7 @@ returns-in-Err-clause-short c =
     let i = c.self.inside in
     let t = c.in-Some.translation in
     let is : i.translation ≡ Some t = cc in
-    let managed : IsManaged (Some t) i.rules i.live i.arrangement i.held = subst (λ k. IsManaged k i.rules i.live i.arrangement i.held) is c.self.invariant in
+    let managed : IsManaged (Some t) i.rules i.live i.arrangement i.held = subst (λ k. IsManaged k i.rules i.live i.arrangement i.held) is c.self.invariant.0 in
     let sound : batch_fault i.rules.rules c.args.batch.now ≡ None = rw (← c.self.view_is) at c.requires.sound in
     rw (← c.self.view_is, is) (src_answer t i.rules i.live i.arrangement i.held c.args.batch.now managed sound c.in-Err.short c.in-Err.ensures.short)
 
@@ -20,7 +20,7 @@ returns-in-Err-check_field-clause-short c =
     let i = c.self.inside in
     let t = c.in-Some.translation in
     let is : i.translation ≡ Some t = cc in
-    let managed : IsManaged (Some t) i.rules i.live i.arrangement i.held = subst (λ k. IsManaged k i.rules i.live i.arrangement i.held) is c.self.invariant in
+    let managed : IsManaged (Some t) i.rules i.live i.arrangement i.held = subst (λ k. IsManaged k i.rules i.live i.arrangement i.held) is c.self.invariant.0 in
     let sound : batch_fault i.rules.rules c.args.batch.now ≡ None = rw (← c.self.view_is) at c.requires.sound in
     rw (← c.self.view_is, is) (dst_answer t i.rules i.live i.arrangement i.held c.args.batch.now managed sound c.in-Ok.ensures.fits c.in-Err-check_field.short c.in-Err-check_field.ensures.short)
 
@@ -29,7 +29,7 @@ returns-in-Ok-check_field-clause-fits c =
     let i = c.self.inside in
     let t = c.in-Some.translation in
     let is : i.translation ≡ Some t = cc in
-    let managed : IsManaged (Some t) i.rules i.live i.arrangement i.held = subst (λ k. IsManaged k i.rules i.live i.arrangement i.held) is c.self.invariant in
+    let managed : IsManaged (Some t) i.rules i.live i.arrangement i.held = subst (λ k. IsManaged k i.rules i.live i.arrangement i.held) is c.self.invariant.0 in
     let sound : batch_fault i.rules.rules c.args.batch.now ≡ None = rw (← c.self.view_is) at c.requires.sound in
     let same : verdict c.args.self.now.slots c.args.self.now.mode c.args.self.now.rules c.args.batch.now ≡ slots_verdict c.args.self.now.slots c.args.self.now.mode c.args.self.now.rules c.args.batch.now =
     rw (← c.self.view_is, is) (bits_answer t i.rules i.live i.arrangement i.held c.args.batch.now managed sound c.in-Ok.ensures.fits c.in-Ok-check_field.ensures.fits) in
@@ -40,7 +40,7 @@ returns-in-Ok-check_field-clause-short c =
     let i = c.self.inside in
     let t = c.in-Some.translation in
     let is : i.translation ≡ Some t = cc in
-    let managed : IsManaged (Some t) i.rules i.live i.arrangement i.held = subst (λ k. IsManaged k i.rules i.live i.arrangement i.held) is c.self.invariant in
+    let managed : IsManaged (Some t) i.rules i.live i.arrangement i.held = subst (λ k. IsManaged k i.rules i.live i.arrangement i.held) is c.self.invariant.0 in
     let sound : batch_fault i.rules.rules c.args.batch.now ≡ None = rw (← c.self.view_is) at c.requires.sound in
     let same : verdict c.args.self.now.slots c.args.self.now.mode c.args.self.now.rules c.args.batch.now ≡ slots_verdict c.args.self.now.slots c.args.self.now.mode c.args.self.now.rules c.args.batch.now =
     rw (← c.self.view_is, is) (bits_answer t i.rules i.live i.arrangement i.held c.args.batch.now managed sound c.in-Ok.ensures.fits c.in-Ok-check_field.ensures.fits) in

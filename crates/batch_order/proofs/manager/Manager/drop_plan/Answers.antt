@@ -2,6 +2,7 @@ use Rattle.std.proofs.Common.{◌≡◌, true, Option, Some, None, subst, sym, a
 use Rattle.batch_order.specs.declared.held.Held.{Held}
 use Rattle.batch_order.specs.Kept.{IsManaged}
 use Rattle.batch_order.specs.Steps.{cancelled, is_unwritten}
+use Rattle.batch_order.specs.Undoing.{StandsAt}
 use Rattle.batch_order.proofs.under_way.Carried.{view_of}
 use Rattle.batch_order.proofs.back.Reverted.{IsReverted, dropped_view, managed_reverted}
 use Rattle.batch_order.proofs.under_way.Unwritten.{unwritten_is, unwritten_parts}
@@ -12,7 +13,7 @@ forget_all-requires c =
     let i = c.self.inside in
     let held = c.in-Some.held in
     let was : i.held ≡ Some held = cc in
-    let before = subst (IsManaged i.translation i.rules i.live i.arrangement) was c.self.invariant in
+    let before = subst (IsManaged i.translation i.rules i.live i.arrangement) was c.self.invariant.0 in
     let said : is_unwritten (view_of i.placement i.translation i.rules i.live i.arrangement i.held).held ≡ true = rw (← c.self.view_is) at c.requires in
     let here = subst (λ (h : Option Held). is_unwritten (view_of i.placement i.translation i.rules i.live i.arrangement h).held ≡ true) was said in
     let one = unwritten_parts held (sym (unwritten_is i.translation i.rules i.live i.arrangement held before) ∙ here) in
@@ -23,19 +24,34 @@ invariant_of-self-in-Some c =
     let i = c.self.inside in
     let held = c.in-Some.held in
     let was : i.held ≡ Some held = cc in
-    let before = subst (IsManaged i.translation i.rules i.live i.arrangement) was c.self.invariant in
+    let before = subst (IsManaged i.translation i.rules i.live i.arrangement) was c.self.invariant.0 in
     let reverted : IsReverted i.live c.forget_all.new.live held = record { live = c.forget_all.ensures.live; entries = c.forget_all.ensures.kept; slots = c.forget_all.ensures.slots } in
     let said : is_unwritten (view_of i.placement i.translation i.rules i.live i.arrangement i.held).held ≡ true = rw (← c.self.view_is) at c.requires in
     let here = subst (λ (h : Option Held). is_unwritten (view_of i.placement i.translation i.rules i.live i.arrangement h).held ≡ true) was said in
     let one = unwritten_parts held (sym (unwritten_is i.translation i.rules i.live i.arrangement held before) ∙ here) in
-    rw c.take.ensures.after (managed_reverted i.translation i.rules i.live c.forget_all.new.live i.arrangement held before (before.carried.way_back one.prepared) reverted)
+    let stands = subst (StandsAt i.arrangement i.planned) was c.self.invariant.1 in
+    rw c.take.ensures.after (
+      managed_reverted i.translation i.rules i.live c.forget_all.new.live i.arrangement held before (before.carried.way_back one.prepared) reverted,
+      c.take_back.ensures i.arrangement (stands.1 one.prepared),
+    )
+
+pub take_back-requires : goal.take_back-requires
+take_back-requires c =
+    let i = c.self.inside in
+    let held = c.in-Some.held in
+    let was : i.held ≡ Some held = cc in
+    let before = subst (IsManaged i.translation i.rules i.live i.arrangement) was c.self.invariant.0 in
+    let said : is_unwritten (view_of i.placement i.translation i.rules i.live i.arrangement i.held).held ≡ true = rw (← c.self.view_is) at c.requires in
+    let here = subst (λ (h : Option Held). is_unwritten (view_of i.placement i.translation i.rules i.live i.arrangement h).held ≡ true) was said in
+    let one = unwritten_parts held (sym (unwritten_is i.translation i.rules i.live i.arrangement held before) ∙ here) in
+    (i.arrangement, (subst (StandsAt i.arrangement i.planned) was c.self.invariant.1).1 one.prepared)
 
 pub returns-in-Some : goal.returns-in-Some
 returns-in-Some c =
     let i = c.self.inside in
     let held = c.in-Some.held in
     let was : i.held ≡ Some held = cc in
-    let before = subst (IsManaged i.translation i.rules i.live i.arrangement) was c.self.invariant in
+    let before = subst (IsManaged i.translation i.rules i.live i.arrangement) was c.self.invariant.0 in
     let reverted : IsReverted i.live c.forget_all.new.live held = record { live = c.forget_all.ensures.live; entries = c.forget_all.ensures.kept; slots = c.forget_all.ensures.slots } in
     let view : view_of i.placement i.translation i.rules i.live i.arrangement i.held ≡ c.args.self.now = c.self.view_is in
     let said : is_unwritten (view_of i.placement i.translation i.rules i.live i.arrangement i.held).held ≡ true = rw (← c.self.view_is) at c.requires in

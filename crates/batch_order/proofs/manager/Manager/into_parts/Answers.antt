@@ -13,7 +13,7 @@ pub returns-clause-plain : goal.returns-clause-plain
 returns-clause-plain c =
     let i = c.self.inside in
     let view : view_of i.placement i.translation i.rules i.live i.arrangement i.held ≡ c.args.self = c.self.view_is in
-    subst (λ (m : Managed). m.mode ≡ Cover → HasBlankTables m.state) view (λ cover. blank_by_covers i.translation i.rules i.live i.arrangement i.held c.self.invariant cover)
+    subst (λ (m : Managed). m.mode ≡ Cover → HasBlankTables m.state) view (λ cover. blank_by_covers i.translation i.rules i.live i.arrangement i.held c.self.invariant.0 cover)
 
 pub returns-clause-set_bits : goal.returns-clause-set_bits
 returns-clause-set_bits c =
@@ -22,4 +22,4 @@ returns-clause-set_bits c =
     let maps : FieldBits = record { src = c.maps_of-src.result.0; dst = c.maps_of-src.result.1 } in
     subst (λ (m : Managed). AreSetBits m.mode m.rules maps) view
     (subst (AreSetBits (mode_of i.translation) i.rules.rules) (sym c.maps_of-src.ensures)
-    (set_bits_of (mode_of i.translation) (bits_of i.translation) i.rules.rules (tables_of i.translation) c.self.invariant.translated))
+    (set_bits_of (mode_of i.translation) (bits_of i.translation) i.rules.rules (tables_of i.translation) c.self.invariant.0.translated))

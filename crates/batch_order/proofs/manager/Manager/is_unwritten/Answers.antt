@@ -12,7 +12,7 @@ returns-in-Some c =
     let i = c.self.inside in
     let held = c.in-Some.held in
     let is : i.held ≡ Some held = c.in-Some.is in
-    let managed = subst (IsManaged i.translation i.rules i.live i.arrangement) is c.self.invariant in
+    let managed = subst (IsManaged i.translation i.rules i.live i.arrangement) is c.self.invariant.0 in
     let view : view_of i.placement i.translation i.rules i.live i.arrangement i.held ≡ c.args.self.now = c.self.view_is in
     subst (λ (m : Managed). c.is_unwritten.result ≡ is_unwritten m.held) view
     (subst (λ (h : Option Held). c.is_unwritten.result ≡ is_unwritten (view_of i.placement i.translation i.rules i.live i.arrangement h).held) (sym is)

@@ -11,7 +11,7 @@ use Rattle.batch_order.proofs.manager.Manager.left.Goals as goal
 pub left-requires : goal.left-requires
 left-requires c =
     let i = c.self.inside in
-    let managed : IsManaged i.translation i.rules i.live i.arrangement (Some c.in-Some.held) = subst (IsManaged i.translation i.rules i.live i.arrangement) c.in-Some.is c.self.invariant in
+    let managed : IsManaged i.translation i.rules i.live i.arrangement (Some c.in-Some.held) = subst (IsManaged i.translation i.rules i.live i.arrangement) c.in-Some.is c.self.invariant.0 in
     managed.carried.made
 
 pub returns-in-Some : goal.returns-in-Some
@@ -19,7 +19,7 @@ returns-in-Some c =
     let i = c.self.inside in
     let held = c.in-Some.held in
     let is : i.held ≡ Some held = c.in-Some.is in
-    let managed : IsManaged i.translation i.rules i.live i.arrangement (Some held) = subst (IsManaged i.translation i.rules i.live i.arrangement) is c.self.invariant in
+    let managed : IsManaged i.translation i.rules i.live i.arrangement (Some held) = subst (IsManaged i.translation i.rules i.live i.arrangement) is c.self.invariant.0 in
     let view : view_of i.placement i.translation i.rules i.live i.arrangement i.held ≡ c.args.self.now = c.self.view_is in
     let count : Some c.left.result ≡ option_map (λ (one : HeldCommit). length (writes_in one.actions)) (view_of i.placement i.translation i.rules i.live i.arrangement (Some held)).held =
     ap (λ (n : ℕ). Some n) (c.left.ensures ∙ left_is i.translation i.rules i.live i.arrangement held managed i.placement) in

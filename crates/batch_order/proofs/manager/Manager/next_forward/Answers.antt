@@ -40,7 +40,7 @@ returns-in-Some-get-clause-next c =
     let held = c.in-Some.held in
     let write : Write = c.write_of.result in
     let is : i.held ≡ Some held = c.in-Some.is in
-    let managed : IsManaged i.translation i.rules i.live i.arrangement (Some held) = subst (IsManaged i.translation i.rules i.live i.arrangement) is c.self.invariant in
+    let managed : IsManaged i.translation i.rules i.live i.arrangement (Some held) = subst (IsManaged i.translation i.rules i.live i.arrangement) is c.self.invariant.0 in
     let view : view_of i.placement i.translation i.rules i.live i.arrangement i.held ≡ c.args.self.now = c.self.view_is in
     let straight : is_turned (view_of i.placement i.translation i.rules i.live i.arrangement i.held).held ≡ false = rw (← c.self.view_is) at c.requires in
     let forward : held.turned ≡ None = forward_way held.turned (undo_left i.translation i.arrangement i.live.entries held) (subst (λ (h : Option Held). is_turned (view_of i.placement i.translation i.rules i.live i.arrangement h).held ≡ false) is straight) in
@@ -58,7 +58,7 @@ returns-in-Some-get-clause-in_use c =
     let write : Write = c.write_of.result in
     let read : slice_get writes held.made ≡ Some write = read_next c in
     let is : i.held ≡ Some held = c.in-Some.is in
-    let managed : IsManaged i.translation i.rules i.live i.arrangement (Some held) = subst (IsManaged i.translation i.rules i.live i.arrangement) is c.self.invariant in
+    let managed : IsManaged i.translation i.rules i.live i.arrangement (Some held) = subst (IsManaged i.translation i.rules i.live i.arrangement) is c.self.invariant.0 in
     subst (λ (m : Managed). IsInUse m.slots write) c.self.view_is
     (all_at (IsInUse (length i.arrangement)) writes held.made write managed.carried.in_use (slice_get_within writes held.made write read) (get_or_from_slice_get writes held.made write write read))
 
@@ -68,7 +68,7 @@ returns-then-drains_next-clause-next c =
     let i = c.self.inside in
     let held = c.in-Some.held in
     let is : i.held ≡ Some held = c.in-Some.is in
-    let managed : IsManaged i.translation i.rules i.live i.arrangement (Some held) = subst (IsManaged i.translation i.rules i.live i.arrangement) is c.self.invariant in
+    let managed : IsManaged i.translation i.rules i.live i.arrangement (Some held) = subst (IsManaged i.translation i.rules i.live i.arrangement) is c.self.invariant.0 in
     let view : view_of i.placement i.translation i.rules i.live i.arrangement i.held ≡ c.args.self.now = c.self.view_is in
     let straight : is_turned (view_of i.placement i.translation i.rules i.live i.arrangement i.held).held ≡ false = rw (← c.self.view_is) at c.requires in
     let forward : held.turned ≡ None = forward_way held.turned (undo_left i.translation i.arrangement i.live.entries held) (subst (λ (h : Option Held). is_turned (view_of i.placement i.translation i.rules i.live i.arrangement h).held ≡ false) is straight) in
@@ -90,7 +90,7 @@ returns-in-None-get-clause-next c =
     let held = c.in-Some.held in
     let made : PlannedWrite → Write = as_write i.live.entries held.rewrites.items in
     let is : i.held ≡ Some held = c.in-Some.is in
-    let managed : IsManaged i.translation i.rules i.live i.arrangement (Some held) = subst (IsManaged i.translation i.rules i.live i.arrangement) is c.self.invariant in
+    let managed : IsManaged i.translation i.rules i.live i.arrangement (Some held) = subst (IsManaged i.translation i.rules i.live i.arrangement) is c.self.invariant.0 in
     let view : view_of i.placement i.translation i.rules i.live i.arrangement i.held ≡ c.args.self.now = c.self.view_is in
     let straight : is_turned (view_of i.placement i.translation i.rules i.live i.arrangement i.held).held ≡ false = rw (← c.self.view_is) at c.requires in
     let forward : held.turned ≡ None = forward_way held.turned (undo_left i.translation i.arrangement i.live.entries held) (subst (λ (h : Option Held). is_turned (view_of i.placement i.translation i.rules i.live i.arrangement h).held ≡ false) is straight) in

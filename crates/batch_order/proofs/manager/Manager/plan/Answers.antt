@@ -25,7 +25,9 @@ use Rattle.batch_order.specs.declared.translation.Translation.{Translation}
 use Rattle.batch_order.specs.Entries.{AddsIds, Entries, HaveIds}
 use Rattle.batch_order.specs.Kept.{IsManaged, bits_of, held_of, mode_of, settled_state}
 use Rattle.batch_order.specs.Placing.{aims_of, words_of}
+use Rattle.batch_order.specs.Noting.{BeginsWithWords, all_undo}
 use Rattle.batch_order.specs.Planning.{ArePlannedSince, all_writes}
+use Rattle.batch_order.specs.Undoing.{AreRestoring, StandsAt, TakesBack}
 use Rattle.batch_order.specs.Managed.{Managed, Holds}
 use Rattle.batch_order.proofs.planning.Parted.{inserted_encodable, rewritten_encodable}
 use Rattle.batch_order.proofs.ids.Numbered.{arranged_number}
@@ -35,7 +37,7 @@ use Rattle.batch_order.proofs.arranged.Cleared.{all_stand}
 use Rattle.batch_order.proofs.under_way.Carried.{view_of}
 use Rattle.batch_order.proofs.planning.Refused.{managed_same, view_same}
 use Rattle.batch_order.proofs.planning.Taken.{ArePartsOf, IsCoded, IsTaken, behind_by, behind_serves, during_by, inserted_room, kept_so, pieces_have_ids, plan_made, plan_words, said_so, words_by}
-use Rattle.batch_order.proofs.planning.Leading.{AreLiveParts, few_rewrites, live_parts, parts_live_before}
+use Rattle.batch_order.proofs.planning.Leading.{AreLiveParts, few_rewrites, live_parts, parts_apart, parts_live_before}
 use Rattle.batch_order.proofs.planning.Holding.{IsHeldPlan, holds_plan, managed_held}
 use Rattle.batch_order.proofs.manager.Manager.plan.Goals as goal
 
@@ -70,7 +72,7 @@ words_as placement translation rules kept slots held now batch writes view idle 
 pub parts_of-requires : goal.parts_of-requires
 parts_of-requires c =
     let i = c.self.inside in
-    let t = taken_as i.placement i.translation i.rules i.live i.arrangement i.held c.args.self.now c.args.batch.now c.self.invariant c.self.view_is c.requires.idle c.requires.changes c.requires.sound c.requires.fits in
+    let t = taken_as i.placement i.translation i.rules i.live i.arrangement i.held c.args.self.now c.args.batch.now c.self.invariant.0 c.self.view_is c.requires.idle c.requires.changes c.requires.sound c.requires.fits in
     let coded = coded_as i.placement i.translation i.rules i.live i.arrangement i.held c.args.self.now c.args.batch.now c.in_ok-bits.bits c.self.view_is c.in_ok-bits.ensures.bits in
     record {
       is_set = t.change.is_set;
@@ -86,8 +88,8 @@ parts_of-requires c =
 pub reserve-requires : goal.reserve-requires
 reserve-requires c =
     let i = c.self.inside in
-    let few = entries_few i.translation i.rules i.live i.arrangement i.held c.self.invariant in
-    let fewer = rules_entries (mode_of i.translation) i.rules.rules c.self.invariant.right in
+    let few = entries_few i.translation i.rules i.live i.arrangement i.held c.self.invariant.0 in
+    let fewer = rules_entries (mode_of i.translation) i.rules.rules c.self.invariant.0.right in
     let most : c.len.result ≤ most_commands = c.len.ensures.most in
     omega arith
 
@@ -107,11 +109,18 @@ parts_live translation rules old new slots batch ids rewrites erased t adds part
     subst (λ (l : List LivePiece). AreLiveParts l rewrites erased) (sym adds.live)
     (live_parts (mode_of translation) (during_by translation rules batch) rules.rules batch old.slots old.live adds.made rewrites erased t.managed.carried.settled.apart t.change parts)
 
+-- with no commit under way the arrangement is that of the set
+stands_as : (placement : Placement) (translation : Option Translation) (rules : StoredRules) (kept : Entries) (slots planned : Slots) (held : Option Held) (now : Managed)
+    → view_of placement translation rules kept slots held ≡ now → now.held ≡ None → StandsAt slots planned held → planned ≡ slots
+stands_as placement translation rules kept slots planned held now view idle stands =
+    let none = idle_held (held_of translation slots rules.rules kept.entries) held (rw (← view) at idle) in
+    subst (StandsAt slots planned) none stands
+
 pub plan_writes-requires : goal.plan_writes-requires
 plan_writes-requires c =
     let i = c.self.inside in
     let batch = c.args.batch.now in
-    let t = taken_as i.placement i.translation i.rules i.live i.arrangement i.held c.args.self.now batch c.self.invariant c.self.view_is c.requires.idle c.requires.changes c.requires.sound c.requires.fits in
+    let t = taken_as i.placement i.translation i.rules i.live i.arrangement i.held c.args.self.now batch c.self.invariant.0 c.self.view_is c.requires.idle c.requires.changes c.requires.sound c.requires.fits in
     let coded = coded_as i.placement i.translation i.rules i.live i.arrangement i.held c.args.self.now batch c.in_ok-bits.bits c.self.view_is c.in_ok-bits.ensures.bits in
     let words = words_as i.placement i.translation i.rules i.live i.arrangement i.held c.args.self.now batch (all_writes c.plan_words.new.plan.writes) c.self.view_is c.requires.idle c.in_ok-bits.ensures.writes in
     let during = during_by i.translation i.rules batch in
@@ -127,9 +136,9 @@ plan_writes-requires c =
           ∙ ap (entries_of (mode_of i.translation)) (sym c.reserve.ensures.rules);
       room = rw c.in_ok-parts.ensures.inserted room;
       encodable = rw c.in_ok-parts.ensures.inserted encodable;
-      plannable = rw c.in_ok-arrangement.ensures (plan_words i.live i.arrangement c.plan_words.new.plan.writes (words_by i.translation i.rules i.live i.arrangement batch) words (c.plan_words.ensures.no_changes ∙ c.new-plan.ensures.no_changes) t.managed.carried.settled
+      plannable = rw (stands_as i.placement i.translation i.rules i.live i.arrangement i.planned i.held c.args.self.now c.self.view_is c.requires.idle c.self.invariant.1) (plan_words i.live i.arrangement c.plan_words.new.plan.writes (words_by i.translation i.rules i.live i.arrangement batch) words (c.plan_words.ensures.no_changes ∙ c.new-plan.ensures.no_changes) t.managed.carried.settled
           (tables_in_use i.live.slots (words_by i.translation i.rules i.live i.arrangement batch) (bit_writes-tables (settled_state i.translation i.live.entries i.arrangement) (new_bits (bits_of i.translation) during))));
-      size = t.managed.carried.settled.size;
+      begins = subst (λ (m : Mode). BeginsWithWords m c.plan_words.new.plan) (sym (ap (λ (now : Managed). now.mode) c.self.view_is)) c.in_ok-bits.ensures.begins;
       few =
           let fewer = few_rewrites (mode_of i.translation) during i.rules.rules batch i.live.slots i.live.live rewrites erased t.managed.carried.settled.apart t.change of_batch in
           let count = t.managed.carried.settled.count in
@@ -137,21 +146,22 @@ plan_writes-requires c =
           omega arith;
       rewritten = live.0;
       erased = live.1;
+      apart = parts_apart (mode_of i.translation) during i.rules.rules batch i.live.slots i.live.live rewrites erased t.managed.carried.settled.apart t.change of_batch;
     }
 
 pub erase_all-requires : goal.erase_all-requires
 erase_all-requires c =
     let i = c.self.inside in
     let batch = c.args.batch.now in
-    let t = taken_as i.placement i.translation i.rules i.live i.arrangement i.held c.args.self.now batch c.self.invariant c.self.view_is c.requires.idle c.requires.changes c.requires.sound c.requires.fits in
+    let t = taken_as i.placement i.translation i.rules i.live i.arrangement i.held c.args.self.now batch c.self.invariant.0 c.self.view_is c.requires.idle c.requires.changes c.requires.sound c.requires.fits in
     let coded = coded_as i.placement i.translation i.rules i.live i.arrangement i.held c.args.self.now batch c.in_ok-bits.bits c.self.view_is c.in_ok-bits.ensures.bits in
     let rewrites = c.in_ok-parts.parts.rewrites.items in
     let erased = c.in_ok-parts.parts.erased.items in
-    let parts = parts_live i.translation i.rules i.live c.plan_writes.new.live i.arrangement batch c.in_ok-planned.planned.ids.items rewrites erased t c.in_ok-planned.ensures.adds
+    let parts = parts_live i.translation i.rules i.live c.plan_writes.new.live i.arrangement batch c.in_ok-ids.ids.items rewrites erased t c.in_ok-ids.ensures.adds
     (parts_as i.translation i.rules batch c.in_ok-bits.bits i.live.live rewrites erased coded c.in_ok-parts.ensures.rewrites c.in_ok-parts.ensures.erased) in
     record {
       distinct = rw c.deref.ensures.value parts.once;
-      standing = rw c.deref.ensures.value (all_stand c.plan_writes.new.live c.plan_writes.new.arrangement erased c.in_ok-planned.ensures.planned.settled parts.gone);
+      standing = rw c.deref.ensures.value (all_stand c.plan_writes.new.live c.plan_writes.new.arrangement erased c.in_ok-ids.ensures.planned.settled parts.gone);
     }
 
 -- what holds of a refusal wherever it comes
@@ -159,26 +169,30 @@ at_err : {A B : Type 0} (result : Result A B) (P : Type 0) → P → OnErr resul
 at_err (Ok value) P holds = tt
 at_err (Err fault) P holds = holds
 
-pub invariant_of-self-in_err-planned : goal.invariant_of-self-in_err-planned
-invariant_of-self-in_err-planned c =
+pub invariant_of-self-in_err-ids : goal.invariant_of-self-in_err-ids
+invariant_of-self-in_err-ids c =
     let i = c.self.inside in
     let none = idle_held (held_of i.translation i.arrangement i.rules.rules i.live.entries) i.held (rw (← c.self.view_is) at c.requires.idle) in
-    let managed : IsManaged i.translation i.rules i.live i.arrangement None = subst (IsManaged i.translation i.rules i.live i.arrangement) none c.self.invariant in
-    subst (IsManaged i.translation c.reserve.new.self c.plan_writes.new.live i.arrangement) (sym none)
-    (managed_same i.translation i.rules c.reserve.new.self i.live c.plan_writes.new.live i.arrangement managed c.reserve.ensures.rules c.in_err-planned.ensures.refused c.plan_writes.ensures.slots c.plan_writes.ensures.kept)
+    let managed : IsManaged i.translation i.rules i.live i.arrangement None = subst (IsManaged i.translation i.rules i.live i.arrangement) none c.self.invariant.0 in
+    let stands : i.planned ≡ i.arrangement = subst (StandsAt i.arrangement i.planned) none c.self.invariant.1 in
+    rw c.plan_writes.ensures.same (
+      subst (IsManaged i.translation c.reserve.new.self c.plan_writes.new.live i.arrangement) (sym none)
+          (managed_same i.translation i.rules c.reserve.new.self i.live c.plan_writes.new.live i.arrangement managed c.reserve.ensures.rules c.in_err-ids.ensures.refused c.plan_writes.ensures.slots c.plan_writes.ensures.kept),
+      subst (StandsAt i.arrangement c.plan_writes.new.arrangement) (sym none) (c.in_err-ids.ensures.back ∙ stands),
+    )
 
-pub returns-in_err-planned-clause-refused : goal.returns-in_err-planned-clause-refused
-returns-in_err-planned-clause-refused c =
+pub returns-in_err-ids-clause-refused : goal.returns-in_err-ids-clause-refused
+returns-in_err-ids-clause-refused c =
     let i = c.self.inside in
     let none = idle_held (held_of i.translation i.arrangement i.rules.rules i.live.entries) i.held (rw (← c.self.view_is) at c.requires.idle) in
-    let managed : IsManaged i.translation i.rules i.live i.arrangement None = subst (IsManaged i.translation i.rules i.live i.arrangement) none c.self.invariant in
+    let managed : IsManaged i.translation i.rules i.live i.arrangement None = subst (IsManaged i.translation i.rules i.live i.arrangement) none c.self.invariant.0 in
     let view : view_of i.placement i.translation i.rules i.live i.arrangement i.held ≡ c.args.self.now = c.self.view_is in
     let same : view_of i.placement i.translation c.reserve.new.self c.plan_writes.new.live i.arrangement i.held ≡ view_of i.placement i.translation i.rules i.live i.arrangement i.held =
     subst (λ (h : Option Held). view_of i.placement i.translation c.reserve.new.self c.plan_writes.new.live i.arrangement h ≡ view_of i.placement i.translation i.rules i.live i.arrangement h) (sym none)
     (view_same i.placement i.translation i.rules c.reserve.new.self i.live c.plan_writes.new.live i.arrangement managed c.reserve.ensures.rules c.plan_writes.ensures.kept) in
-    at_err c.from_residual-in_err-planned.result _ (same ∙ view)
+    at_err c.from_residual-in_err-ids.result _ (rw c.plan_writes.ensures.same (same ∙ view))
 
--- insertions that were planned over a copy, for the same rules and pieces
+-- insertions that were planned for the same rules and pieces, in an arrangement that stands as the set's entries do
 planned_from : (old new : Entries) (slots copy middle : Slots) (plan plan' : Plan) (placement : Placement) (mode : Mode) (rules set : List Rule) (pieces listed : List RankedPiece) → copy ≡ slots → set ≡ rules → listed ≡ pieces
     → ArePlannedSince old new copy middle plan plan' listed (aims_of placement mode (length copy) set listed) → ArePlannedSince old new slots middle plan plan' pieces (aims_of placement mode (length slots) rules pieces)
 planned_from old new slots copy middle plan plan' placement mode rules set pieces listed same_slots same_rules same_pieces planned =
@@ -191,7 +205,7 @@ abbrev held_now : goal.After-drop-parts-2 → Held
 held_now c = record {
   prepared = true;
   writes = c.plan_writes.new.plan.writes;
-  undo = c.in_ok-planned.planned.undo;
+  undo = c.plan_writes.new.plan.undo;
   made = 0;
   turned = None;
   awaits = c.gives_bits-awaits.result;
@@ -201,10 +215,15 @@ held_now c = record {
   batch = c.in_ok-commands.commands;
   rewrites = c.in_ok-parts.parts.rewrites;
   erased = c.in_ok-parts.parts.erased;
-  ids = c.in_ok-planned.planned.ids;
-  arrangement = c.erase_all.new.arrangement;
+  ids = c.in_ok-ids.ids;
+  arrangement = c.of.result;
   most_parts = c.plan_writes.new.plan.most_parts;
 }
+
+stands_now : (c : goal.After-drop-parts-2) → c.self.inside.planned ≡ c.self.inside.arrangement
+stands_now c =
+    let i = c.self.inside in
+    stands_as i.placement i.translation i.rules i.live i.arrangement i.planned i.held c.args.self.now c.self.view_is c.requires.idle c.self.invariant.1
 
 plan_now : (c : goal.After-drop-parts-2)
     → IsHeldPlan c.self.inside.placement c.self.inside.translation c.self.inside.rules c.reserve.new.self c.self.inside.live c.plan_writes.new.live c.self.inside.arrangement c.plan_writes.new.arrangement
@@ -214,18 +233,18 @@ plan_now c =
     let batch = c.args.batch.now in
     let bits = c.in_ok-bits.bits in
     let parts = c.in_ok-parts.parts in
-    let t = taken_as i.placement i.translation i.rules i.live i.arrangement i.held c.args.self.now batch c.self.invariant c.self.view_is c.requires.idle c.requires.changes c.requires.sound c.requires.fits in
+    let t = taken_as i.placement i.translation i.rules i.live i.arrangement i.held c.args.self.now batch c.self.invariant.0 c.self.view_is c.requires.idle c.requires.changes c.requires.sound c.requires.fits in
     let coded = coded_as i.placement i.translation i.rules i.live i.arrangement i.held c.args.self.now batch bits c.self.view_is c.in_ok-bits.ensures.bits in
     let words = words_as i.placement i.translation i.rules i.live i.arrangement i.held c.args.self.now batch (all_writes c.plan_words.new.plan.writes) c.self.view_is c.requires.idle c.in_ok-bits.ensures.writes in
     let size = length-map (words_by i.translation i.rules i.live i.arrangement batch) Tabled in
-    let all = c.in_ok-planned.ensures.planned in
+    let all = c.in_ok-ids.ensures.planned in
     let pieces = said_so i.translation i.rules batch bits coded (λ m b. parts.inserted.items ≡ inserted_pieces m b i.rules.rules batch) c.in_ok-parts.ensures.inserted in
-    let since = planned_from i.live c.plan_writes.new.live i.arrangement c.in_ok-arrangement.arrangement c.plan_writes.new.arrangement c.plan_words.new.plan all.between i.placement (mode_of i.translation)
-    i.rules.rules c.reserve.new.self.rules (inserted_pieces (mode_of i.translation) (during_by i.translation i.rules batch) i.rules.rules batch) parts.inserted.items c.in_ok-arrangement.ensures c.reserve.ensures.rules pieces all.inserted in
+    let since = planned_from i.live c.plan_writes.new.live i.arrangement i.planned c.plan_writes.new.arrangement c.plan_words.new.plan all.between i.placement (mode_of i.translation)
+    i.rules.rules c.reserve.new.self.rules (inserted_pieces (mode_of i.translation) (during_by i.translation i.rules batch) i.rules.rules batch) parts.inserted.items (stands_now c) c.reserve.ensures.rules pieces all.inserted in
     let counted = plan_made i.placement i.translation i.rules i.live c.plan_writes.new.live i.arrangement c.plan_writes.new.arrangement batch parts.rewrites.items parts.erased.items c.plan_words.new.plan all.between
     (all_writes c.plan_writes.new.plan.writes) c.counts-counts.result t
     (parts_as i.translation i.rules batch bits i.live.live parts.rewrites.items parts.erased.items coded c.in_ok-parts.ensures.rewrites c.in_ok-parts.ensures.erased)
-    c.plan_writes.ensures.slots c.in_ok-planned.ensures.planned.settled since
+    c.plan_writes.ensures.slots c.in_ok-ids.ensures.planned.settled since
     record {
       writes = words;
       number = c.in_ok-bits.ensures.words ∙ (ap length words ∙ size);
@@ -235,12 +254,12 @@ plan_now c =
       most_parts = c.plan_words.ensures.most_parts ∙ c.new-plan.ensures.most_parts;
     }
     record {
-      within = c.in_ok-planned.ensures.planned.within;
-      made = c.in_ok-planned.ensures.planned.writes;
+      within = c.in_ok-ids.ensures.planned.within;
+      made = c.in_ok-ids.ensures.planned.writes;
       number = c.counts-counts.ensures.writes;
-      words = c.counts-counts.ensures.words ∙ c.in_ok-planned.ensures.planned.words;
-      most = c.counts-counts.ensures.most ∙ c.in_ok-planned.ensures.planned.most;
-      span = c.counts-counts.ensures.span ∙ c.in_ok-planned.ensures.planned.span;
+      words = c.counts-counts.ensures.words ∙ c.in_ok-ids.ensures.planned.words;
+      most = c.counts-counts.ensures.most ∙ c.in_ok-ids.ensures.planned.most;
+      span = c.counts-counts.ensures.span ∙ c.in_ok-ids.ensures.planned.span;
     } in
     record {
       plan = counted.plan;
@@ -251,8 +270,9 @@ plan_now c =
       awaits = c.gives_bits-awaits.ensures;
       undrained = refl;
       forward = refl;
-      undo = c.in_ok-planned.ensures.undo c.plan_writes.new.live.entries parts.rewrites.items;
-      adds = c.in_ok-planned.ensures.adds;
+      undo = subst (λ (slots : Slots). AreRestoring i.translation slots (all_writes c.plan_writes.new.plan.writes) (all_undo c.plan_writes.new.plan.undo)) (stands_now c) c.in_ok-ids.ensures.undo
+          c.plan_writes.new.live.entries parts.rewrites.items;
+      adds = c.in_ok-ids.ensures.adds;
       batch_is = c.in_ok-commands.ensures;
       coded = coded;
     }
@@ -261,8 +281,15 @@ pub invariant_of-self-2 : goal.invariant_of-self-2
 invariant_of-self-2 c =
     let i = c.self.inside in
     let spare : length c.args.batch.now ≤ c.reserve.new.self.spare = (let n : c.len.result ≡ length c.args.batch.now = c.len.ensures.count in let e : c.len.result ≤ c.reserve.new.self.spare = c.in_ok-reserve.ensures.enough in omega arith) in
-    managed_held i.placement i.translation i.rules c.reserve.new.self i.live c.plan_writes.new.live i.arrangement c.plan_writes.new.arrangement c.args.batch.now (held_now c) (plan_now c) spare
-    (c.erase_all.ensures ∙ ap (erased_slots c.plan_writes.new.arrangement) c.deref.ensures.value)
+    let erased : c.erase_all.new.arrangement ≡ erased_slots c.plan_writes.new.arrangement c.in_ok-parts.parts.erased.items = c.erase_all.ensures ∙ ap (erased_slots c.plan_writes.new.arrangement) c.deref.ensures.value in
+    rw c.plan_writes.ensures.same (
+      managed_held i.placement i.translation i.rules c.reserve.new.self i.live c.plan_writes.new.live i.arrangement c.plan_writes.new.arrangement c.args.batch.now (held_now c) (plan_now c) spare (c.of.ensures ∙ erased),
+      (
+        sym c.of.ensures,
+        λ prepared. subst (λ (now : Slots). TakesBack i.arrangement now c.plan_writes.new.plan.undo) (sym erased)
+            (subst (λ (before : Slots). TakesBack before (erased_slots c.plan_writes.new.arrangement c.in_ok-parts.parts.erased.items) c.plan_writes.new.plan.undo) (stands_now c) c.in_ok-ids.ensures.takes_back),
+      ),
+    )
 
 pub returns-clause-ready : goal.returns-clause-ready
 returns-clause-ready c =
@@ -273,5 +300,5 @@ returns-clause-ready c =
     let new = view_of i.placement i.translation c.reserve.new.self c.plan_writes.new.live i.arrangement (Some (held_now c)) in
     let holds : Holds (view_of i.placement i.translation i.rules i.live i.arrangement None) batch c.counts-counts.result new =
     holds_plan i.placement i.translation i.rules c.reserve.new.self i.live c.plan_writes.new.live i.arrangement c.plan_writes.new.arrangement batch (held_now c) (plan_now c) in
-    subst (λ (old : Managed). Holds old batch c.counts-counts.result new) view
-    (subst (λ (h : Option Held). Holds (view_of i.placement i.translation i.rules i.live i.arrangement h) batch c.counts-counts.result new) (sym none) holds)
+    rw c.plan_writes.ensures.same (subst (λ (old : Managed). Holds old batch c.counts-counts.result new) view
+    (subst (λ (h : Option Held). Holds (view_of i.placement i.translation i.rules i.live i.arrangement h) batch c.counts-counts.result new) (sym none) holds))

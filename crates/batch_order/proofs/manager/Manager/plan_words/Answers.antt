@@ -9,6 +9,8 @@ use Rattle.batch_order.specs.declared.planned_writes.PlannedWrite.TheVariants.{T
 use Rattle.batch_order.specs.Kept.{bits_of, held_of, mode_of, needed_by, tables_of}
 use Rattle.batch_order.specs.Managed.{Managed}
 use Rattle.batch_order.specs.Placing.{words_of}
+use Rattle.batch_order.specs.Noting.{BeginsWithWords}
+use Rattle.rule_store.specs.declared.Mode.{Mode}
 use Rattle.batch_order.proofs.under_way.Carried.{view_of}
 use Rattle.batch_order.proofs.planning.Judged.{fits_both, idle_held, ranges_needed_are}
 use Rattle.batch_order.proofs.manager.Manager.plan_words.Goals as goal
@@ -22,13 +24,13 @@ pub plan_words-requires-clause-src : goal.plan_words-requires-clause-src
 plan_words-requires-clause-src c =
     let i = c.self.inside in
     let free : HaveFreeBits (mode_of i.translation) i.rules.rules c.args.batch.now = rw (← c.self.view_is) at c.requires.free in
-    (fits_both i.translation i.rules i.live i.arrangement i.held c.args.batch.now c.self.invariant free).0
+    (fits_both i.translation i.rules i.live i.arrangement i.held c.args.batch.now c.self.invariant.0 free).0
 
 pub plan_words-requires-clause-dst : goal.plan_words-requires-clause-dst
 plan_words-requires-clause-dst c =
     let i = c.self.inside in
     let free : HaveFreeBits (mode_of i.translation) i.rules.rules c.args.batch.now = rw (← c.self.view_is) at c.requires.free in
-    (fits_both i.translation i.rules i.live i.arrangement i.held c.args.batch.now c.self.invariant free).1
+    (fits_both i.translation i.rules i.live i.arrangement i.held c.args.batch.now c.self.invariant.0 free).1
 
 pub returns-clause-bits : goal.returns-clause-bits
 returns-clause-bits c =
@@ -36,7 +38,7 @@ returns-clause-bits c =
     let m : Managed = c.args.self.now in
     let mode : mode_of i.translation ≡ m.mode = rw (← c.self.view_is) refl in
     let during : needed_by i.translation c.args.batch.now ≡ bits_with m.mode m.rules c.args.batch.now m.bits =
-    rw (← c.self.view_is) (ranges_needed_are i.translation i.rules i.live i.arrangement i.held c.args.batch.now c.self.invariant) in
+    rw (← c.self.view_is) (ranges_needed_are i.translation i.rules i.live i.arrangement i.held c.args.batch.now c.self.invariant.0) in
     both_ok c.plan_words.result (λ bits. coded_by bits ≡ mode_of i.translation) (λ bits. during_of bits ≡ needed_by i.translation c.args.batch.now)
     (λ bits. (coded_by bits ≡ m.mode) × (during_of bits ≡ bits_with m.mode m.rules c.args.batch.now m.bits)) (λ bits coded is. (coded ∙ mode, is ∙ during))
     c.plan_words.ensures.coded c.plan_words.ensures.during
@@ -48,7 +50,7 @@ returns-clause-writes c =
     let batch = c.args.batch.now in
     let none : i.held ≡ None = idle_held (held_of i.translation i.arrangement i.rules.rules i.live.entries) i.held (rw (← c.self.view_is) at c.requires.idle) in
     let during : needed_by i.translation batch ≡ bits_with (mode_of i.translation) i.rules.rules batch (bits_of i.translation) =
-    ranges_needed_are i.translation i.rules i.live i.arrangement i.held batch c.self.invariant in
+    ranges_needed_are i.translation i.rules i.live i.arrangement i.held batch c.self.invariant.0 in
     let same : bit_writes (tables_of i.translation) (new_bits (bits_of i.translation) (needed_by i.translation batch))
     ≡ words_of (mode_of i.translation) (bits_of i.translation) i.rules.rules batch (view_of i.placement i.translation i.rules i.live i.arrangement None).state =
     ap (λ (b : FieldBits). bit_writes (tables_of i.translation) (new_bits (bits_of i.translation) b)) during in
@@ -59,3 +61,9 @@ returns-clause-writes c =
     let words : bit_writes (tables_of i.translation) (new_bits (bits_of i.translation) (needed_by i.translation batch)) ≡ words_of m.mode m.bits m.rules batch m.state =
     rw (← c.self.view_is) held in
     on_ok_weaker c.plan_words.result (λ writes. writes ∙ ap (map Tabled) words) c.plan_words.ensures.writes
+
+pub returns-clause-begins : goal.returns-clause-begins
+returns-clause-begins c =
+    let i = c.self.inside in
+    let mode : mode_of i.translation ≡ c.args.self.now.mode = rw (← c.self.view_is) refl in
+    on_ok_weaker c.plan_words.result (subst (λ (m : Mode). BeginsWithWords m c.plan_words.new.plan) mode) c.plan_words.ensures.begins
