@@ -1,19 +1,37 @@
 -- What a command line comes to, by what its calls answer.
-use Rattle.std.proofs.Common.{◌≡◌, ◌≢◌, ◌⊎◌, Bool, ℕ, inl, inr, Option, List, refl, sym, ◌∙◌, subst, arith}
+use Rattle.std.proofs.Common.{◌≡◌, ◌≢◌, ◌⊎◌, Bool, ℕ, inl, inr, Option, List, [], refl, sym, ◌∙◌, subst, arith}
+use Rattle.std.specs.Prelude.{codes}
+use Rattle.std.proofs.KnownBytes.{Appends-nil}
 use Rattle.call_history.specs.Cause.{IsCounted}
 use Rattle.rule_model.specs.declared.IpVersion.{IpVersion}
+use Rattle.script_lines.specs.Lines.{text_lines}
 use Rattle.script_runs.specs.declared.Status.{Status}
 use Rattle.script_runs.specs.declared.Status.TheVariants as status
-use Rattle.import_lines.specs.Import.{telling}
+use Rattle.import_lines.specs.Import.{Telling, telling}
 use Rattle.import_lines.specs.Imported.{ImportsBy}
-use Rattle.ip_routes.specs.Telling.{Known, route_told, route_after, route_closing}
-use Rattle.import_cli.specs.Jobs.{Routes, no_routes, CarriesOut}
+use Rattle.import_lines.specs.Writes.{ClosesBy}
+use Rattle.ip_routes.specs.Telling as routes
+use Rattle.ip_monitor.specs.Telling as events
+use Rattle.import_cli.specs.declared.asked.Asked.{Asked}
+use Rattle.import_cli.specs.declared.asked.Asked.TheVariants as asked
+use Rattle.import_cli.specs.declared.asked.Format.{Format}
+use Rattle.import_cli.specs.declared.asked.Format.TheVariants.{IpRoutes, IpMonitor}
+use Rattle.import_cli.specs.CommandLine.{ImportJob, NoJob, Tells, Imports, asked_by}
+use Rattle.import_cli.specs.OwnTexts.{import_help}
+use Rattle.import_cli.specs.Jobs.{no_events, no_routes, CarriesOut}
 
--- routes are imported
-pub carries-routes : (version : IpVersion) (leave_out : Bool) (known : Known) (pieces : List (List ℕ)) (answer : Status) (o n : Option (List ℕ)) → known ≡ no_routes version
-    → ImportsBy (telling route_told route_after route_closing) leave_out known pieces answer o n → CarriesOut (Routes version leave_out) pieces answer o n
-carries-routes version leave_out known pieces answer o n is by =
-    subst (λ k. ImportsBy (telling route_told route_after route_closing) leave_out k pieces answer o n) is by
+-- a format is imported
+pub carries-routes : (format : Format) (version : IpVersion) (leave_out : Bool) (known : routes.Known) (pieces : List (List ℕ)) (answer : Status) (o n : Option (List ℕ)) → format ≡ IpRoutes → known ≡ no_routes version
+    → ImportsBy (telling routes.route_told routes.route_after routes.route_closing) leave_out known pieces answer o n → CarriesOut (Imports format version leave_out) pieces answer o n
+carries-routes format version leave_out known pieces answer o n named is by =
+    subst (λ f. CarriesOut (Imports f version leave_out) pieces answer o n) (sym named)
+    (subst (λ k. ImportsBy (telling routes.route_told routes.route_after routes.route_closing) leave_out k pieces answer o n) is by)
+
+pub carries-events : (format : Format) (version : IpVersion) (leave_out : Bool) (known : events.Known) (pieces : List (List ℕ)) (answer : Status) (o n : Option (List ℕ)) → format ≡ IpMonitor → known ≡ no_events version
+    → ImportsBy (telling events.monitor_told events.monitor_after events.monitor_closing) leave_out known pieces answer o n → CarriesOut (Imports format version leave_out) pieces answer o n
+carries-events format version leave_out known pieces answer o n named is by =
+    subst (λ f. CarriesOut (Imports f version leave_out) pieces answer o n) (sym named)
+    (subst (λ k. ImportsBy (telling events.monitor_told events.monitor_after events.monitor_closing) leave_out k pieces answer o n) is by)
 
 -- a text is told, and nothing is read
 pub told-unread : (result last : Status) (faults : ℕ) → (result ≡ last) ⊎ (result ≡ status.WriteFault) → last ≢ status.ReadFault → IsCounted (result ≡ status.ReadFault) faults faults
@@ -21,3 +39,38 @@ told-unread result last faults (inl is) other =
     record { later = omega arith; once = omega arith; failed = λ same. absurd (other (sym is ∙ same)); stayed = λ _. refl }
 told-unread result last faults (inr is) other =
     record { later = omega arith; once = omega arith; failed = λ same. absurd (let bad : status.WriteFault ≡ status.ReadFault = sym is ∙ same in cc); stayed = λ _. refl }
+
+-- what an answer asks for
+pub carried-as : (a b : Asked) (pieces : List (List ℕ)) (answer : Status) (o n : Option (List ℕ)) → a ≡ b → CarriesOut (asked_by b) pieces answer o n → CarriesOut (asked_by a) pieces answer o n
+carried-as a b pieces answer o n is carries = subst (λ x. CarriesOut (asked_by x) pieces answer o n) (sym is) carries
+
+-- the help, and words that are no command line
+pub helped : (a : Asked) (text : List ℕ) (answer : Status) (o n : Option (List ℕ)) → a ≡ asked.Help → text ≡ import_help → ClosesBy text status.Done answer o n → CarriesOut (asked_by a) [] answer o n
+helped a text answer o n is same closes =
+    carried-as a asked.Help [] answer o n is (refl, inl (subst (λ t. ClosesBy t status.Done answer o n) same closes))
+
+pub misused : (job : ImportJob) (text : List ℕ) (answer : Status) (o n : Option (List ℕ)) → job ≡ NoJob → text ≡ codes "usage\n" → ClosesBy text status.Usage answer o n → CarriesOut job [] answer o n
+misused job text answer o n is same closes =
+    subst (λ j. CarriesOut j [] answer o n) (sym is) (refl, inl (subst (λ t. ClosesBy t status.Usage answer o n) same closes))
+
+-- memory was wanting before anything was read or written
+none-told : {Known : Type 0} → (telling : Telling Known) (leave_out : Bool) (known : Known) (o : Option (List ℕ)) → ImportsBy telling leave_out known [] status.Memory o o
+none-told telling leave_out known o = record {
+  written = [];
+  appends = Appends-nil o;
+  right = λ text after may. record {
+    fates = [];
+    rest = (text_lines text).lines;
+    tail = [];
+    have = record { are = tt; lines_are = refl };
+    written_is = refl;
+    ends = refl;
+  };
+  came = λ same. absurd (cc);
+}
+
+pub wanting : (job : ImportJob) (o : Option (List ℕ)) → CarriesOut job [] status.Memory o o
+wanting NoJob o = (refl, inr (refl, Appends-nil o))
+wanting (Tells text) o = (refl, inr (refl, Appends-nil o))
+wanting (Imports IpRoutes version leave_out) o = none-told (telling routes.route_told routes.route_after routes.route_closing) leave_out (no_routes version) o
+wanting (Imports IpMonitor version leave_out) o = none-told (telling events.monitor_told events.monitor_after events.monitor_closing) leave_out (no_events version) o

@@ -1,1 +1,3 @@
-pub mod Carried
+mod Words
+mod CommandLines
+mod Carried

@@ -1,1 +1,3 @@
+pub mod OwnTexts
+pub mod CommandLine
 pub mod Jobs

@@ -14,5 +14,6 @@ mod asked;
 mod texts;
 mod top;
 
-pub use asked::{Asked, Format, WordsFault, read_words};
+pub use asked::{Asked, Format, read_words};
+pub use option_words::WordsFault;
 pub use top::run_import;

@@ -9,14 +9,16 @@ tcam import: reads what another program prints, and writes a script.
 
     ip -o route show | tcam import ip-routes | tcam route
     ip -6 -o route show | tcam import ip-routes --version 6 | tcam route6
+    ip -o monitor route | tcam import ip-monitor | tcam route --trace
 
     tcam import FORMAT [--version V] [--leave-out]
 
-FORMAT is ip-routes: the lines of ip -o route show, of one table. Where packets
-of a route go gets a number, which a comment tells before its first use.
+FORMAT is ip-routes: the lines of ip -o route show, of one table; or ip-monitor:
+those of ip -o monitor route, each a commit. Where packets of a route go gets a
+number, which a comment tells before its first use.
 
 Each line is said, or the script ends at it: its last line has the number of
-the line, why it can't be said, and the word. It has no commit then, and no
+the line, why it can't be said, and the word. No commit follows, and no
 reader of scripts takes its last line for a command.
 
 Options:

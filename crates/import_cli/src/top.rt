@@ -1,22 +1,26 @@
 //! The top call: a command line, a source and a sink.
 
-ghost use Rattle.std.specs.Prelude.{◌≡◌, Bool, ℕ, List};
+ghost use Rattle.std.specs.Prelude.{◌≡◌, Bool, ℕ, List, map, string_bytes};
 ghost use Rattle.call_history.specs.Cause.{IsCounted};
 ghost use Rattle.script_lines.specs.Given.{GivesPieces, counted};
-ghost use Rattle.import_cli.specs.Jobs.{ImportJob, CarriesOut};
+ghost use Rattle.import_cli.specs.CommandLine.{Imports, asked_by, import_job};
+ghost use Rattle.import_cli.specs.Jobs.{CarriesOut};
 
-use crate::asked::{Asked, Format, WordsFault, read_words};
+use crate::asked::{Asked, Format, read_words};
 use crate::texts::{IMPORT_HELP, USAGE};
 use import_lines::{import, write_last};
+use ip_monitor::IpMonitor;
 use ip_routes::IpRoutes;
+use option_words::WordsFault;
+use rule_model::IpVersion;
 use script_lines::{Sink, Source};
 use script_runs::Status;
 use std::alloc::Global;
 
 /// Does what the words ask for, the program's name first, `import` behind it, and then a format and options: writes the
 /// script that the source's lines are to the sink, line by line, or the product's own text. The statuses are those of
-/// `import_lines::import`; `Usage` comes where the words are no command line. `ReadFault` comes exactly where the source
-/// failed, `WriteFault` exactly where the sink did. Which words ask for what is nowhere promised.
+/// `import_lines::import`; `Usage` comes where the words are no command line, or for want of memory `Memory`. `ReadFault`
+/// comes exactly where the source failed, `WriteFault` exactly where the sink did.
 pub fn run_import<S: Source, K: Sink>(
     alloc: Global,
     words: &[String],
@@ -24,7 +28,7 @@ pub fn run_import<S: Source, K: Sink>(
     sink: &mut K,
 ) -> Status
     ensures job { (pieces : List (List ℕ)) × GivesPieces (S.given source.old) (S.given source.new) (S.left source.old) (S.left source.new) pieces
-        × ((job : ImportJob) × ((which : Bool) → CarriesOut job pieces result (counted which (K.taken sink.old) (K.accepted sink.old)) (counted which (K.taken sink.new) (K.accepted sink.new)))) }
+        × ((which : Bool) → CarriesOut (import_job (map (λ w. string_bytes w) words.now)) pieces result (counted which (K.taken sink.old) (K.accepted sink.old)) (counted which (K.taken sink.new) (K.accepted sink.new))) }
     ensures read { IsCounted (result ≡ Status.ReadFault) (S.faults source.old) (S.faults source.new) }
     ensures written { IsCounted (result ≡ Status.WriteFault) (K.faults sink.old) (K.faults sink.new) }
 {
@@ -43,16 +47,36 @@ fn carry_out<S: Source, K: Sink>(
     sink: &mut K,
 ) -> Status
     ensures job { (pieces : List (List ℕ)) × GivesPieces (S.given source.old) (S.given source.new) (S.left source.old) (S.left source.new) pieces
-        × ((job : ImportJob) × ((which : Bool) → CarriesOut job pieces result (counted which (K.taken sink.old) (K.accepted sink.old)) (counted which (K.taken sink.new) (K.accepted sink.new)))) }
+        × ((which : Bool) → CarriesOut (asked_by asked) pieces result (counted which (K.taken sink.old) (K.accepted sink.old)) (counted which (K.taken sink.new) (K.accepted sink.new))) }
     ensures read { IsCounted (result ≡ Status.ReadFault) (S.faults source.old) (S.faults source.new) }
     ensures written { IsCounted (result ≡ Status.WriteFault) (K.faults sink.old) (K.faults sink.new) }
 {
     match asked {
         Asked::Import {
-            format: Format::IpRoutes,
+            format,
             version,
             leave_out,
-        } => {
+        } => carry_import(alloc, format, version, leave_out, source, sink),
+        Asked::Help => write_last(sink, IMPORT_HELP.as_bytes(), Status::Done),
+    }
+}
+
+/// Imports a format.
+fn carry_import<S: Source, K: Sink>(
+    alloc: Global,
+    format: Format,
+    version: IpVersion,
+    leave_out: bool,
+    source: &mut S,
+    sink: &mut K,
+) -> Status
+    ensures job { (pieces : List (List ℕ)) × GivesPieces (S.given source.old) (S.given source.new) (S.left source.old) (S.left source.new) pieces
+        × ((which : Bool) → CarriesOut (Imports format version leave_out) pieces result (counted which (K.taken sink.old) (K.accepted sink.old)) (counted which (K.taken sink.new) (K.accepted sink.new))) }
+    ensures read { IsCounted (result ≡ Status.ReadFault) (S.faults source.old) (S.faults source.new) }
+    ensures written { IsCounted (result ≡ Status.WriteFault) (K.faults sink.old) (K.faults sink.new) }
+{
+    match format {
+        Format::IpRoutes => {
             import(
                 alloc,
                 IpRoutes::new(alloc, version),
@@ -61,6 +85,14 @@ fn carry_out<S: Source, K: Sink>(
                 sink,
             )
         }
-        Asked::Help => write_last(sink, IMPORT_HELP.as_bytes(), Status::Done),
+        Format::IpMonitor => {
+            import(
+                alloc,
+                IpMonitor::new(alloc, version),
+                leave_out,
+                source,
+                sink,
+            )
+        }
     }
 }

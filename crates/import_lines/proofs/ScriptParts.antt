@@ -1,16 +1,18 @@
 -- What the lines of a text have in its script: a line, the end, and a byte at fault.
 use Rattle.std.proofs.Common.{◌≡◌, ◌≢◌, ◌⊎◌, ◌<◌, ◌≤◌, ◌+◌, ℕ, Bool, true, false, inl, inr, Option, List, [], ◌∷◌, ◌++◌, length, take, drop, refl, sym, ap, ◌∙◌, subst, append-nil, append_assoc, arith, length-append}
+use Rattle.std.specs.Prelude.{IsTrue}
+use Rattle.std.specs.List.{AllByRecursion}
 use Rattle.std.specs.Io.KnownBytes.{Appends}
 use Rattle.std.proofs.lemmas.List.{take-append-drop}
 use Rattle.script_lines.specs.declared.LineFault.{LineFault}
 use Rattle.script_lines.specs.declared.Over.TheVariants as over
 use Rattle.script_lines.specs.Lines.{NumberedLine, ScriptLines, EndOfInput, Faulty, ends_at, onto_lines, lines_of, text_lines_from}
-use Rattle.script_lines.specs.Reader.{HeldBytes, IsOpenLine, HandsWhole, HandsLast}
+use Rattle.script_lines.specs.Reader.{HeldBytes, IsOpenLine, is_of_line, HandsWhole, HandsLast}
 use Rattle.script_lines.proofs.Texts.{text-whole, text-last, text-fault, at_line, IsOfLine}
 use Rattle.script_runs.specs.declared.Status.{Status}
 use Rattle.script_runs.specs.declared.Status.TheVariants as status
 use Rattle.import_lines.specs.Import.{Telling, LineTold, SaidBy, UnsaidBy, ImportedScript, IsSaid, IsLeftOut, stop_line, left_out_line, line_script, script_from}
-use Rattle.import_lines.specs.Imported.{IsFront, EndsBy}
+use Rattle.import_lines.specs.Imported.{IsFront, EndsBy, EndsLine}
 use Rattle.import_lines.specs.Rounds.{Standing, RoundBegins, GoesOn}
 use Rattle.import_lines.specs.Writes.{LastBy, PassesAs, HasText, EndsAs}
 
@@ -20,13 +22,18 @@ open-anew before text none is = subst (λ b. IsOpenLine b text) none is
 
 -- ---- a line comes
 
+-- how long a text is, by what was told of it and the rest
+pub begins-size : (text : List ℕ) (held : HeldBytes) (left : List ℕ) (number : ℕ) (lines : ScriptLines) (s : RoundBegins text held left number lines)
+    → length text ≡ length s.told + length (held.pending ++ left)
+begins-size text held left number lines s = ap length s.text_is ∙ length-append s.told (held.pending ++ left)
+
 -- a line, and those behind it
 pub record LineComes (text line : List ℕ) (held : HeldBytes) (now : List ℕ) (number : ℕ) (lines : ScriptLines) : Type 0 where
   pub later : ScriptLines
   pub lines_are : lines ≡ onto_lines (record { number = number; text = line }) later
-  pub done : ℕ
-  pub size : length text ≡ done + length (held.pending ++ now)
-  pub later_is : later ≡ text_lines_from (length text) done (number + 1) (held.pending ++ now)
+  pub told : List ℕ
+  pub text_is : text ≡ told ++ (held.pending ++ now)
+  pub later_is : later ≡ text_lines_from (length text) (length told) (number + 1) (held.pending ++ now)
   pub last : held.over ≡ over.Ended → held.pending ++ now ≡ []
 
 -- with its line feed
@@ -34,16 +41,20 @@ comes-whole : (text : List ℕ) (old held : HeldBytes) (left now : List ℕ) (nu
     → RoundBegins text old left number lines → HandsWhole old left line held now → LineComes text line.text held now number lines
 comes-whole text old held left now number lines line before s whole =
     let opened : IsOpenLine 0 line.text = open-anew old.before line.text before whole.one_line in
-    let size : length text ≡ s.done + length (line.text ++ 10 ∷ (held.pending ++ now)) = subst (λ rest. length text ≡ s.done + length rest) whole.bytes s.size in
-    let long = length-append line.text (10 ∷ (held.pending ++ now)) in
-    let room : s.done + length line.text < length text = omega (arith, size, long) in
+    let rest : List ℕ = held.pending ++ now in
+    let size : length text ≡ length s.told + length (line.text ++ 10 ∷ rest) = subst (λ bytes. length text ≡ length s.told + length bytes) whole.bytes (begins-size text old left number lines s) in
+    let long = length-append line.text (10 ∷ rest) in
+    let room : length s.told + length line.text < length text = omega (arith, size, long) in
+    let outer = length-append s.told (line.text ++ 10 ∷ []) in
+    let inner = length-append line.text (10 ∷ []) in
+    let behind : length s.told + length line.text + 1 ≡ length (s.told ++ (line.text ++ 10 ∷ [])) = omega (arith, outer, inner) in
     record {
-      later = text_lines_from (length text) (s.done + length line.text + 1) (number + 1) (held.pending ++ now);
-      lines_are = s.lines_are ∙ ap (λ rest. text_lines_from (length text) s.done number rest) whole.bytes
-          ∙ text-whole (length text) s.done number line.text (held.pending ++ now) opened room;
-      done = s.done + length line.text + 1;
-      size = omega (arith, size, long);
-      later_is = refl;
+      later = text_lines_from (length text) (length s.told + length line.text + 1) (number + 1) rest;
+      lines_are = s.lines_are ∙ ap (λ bytes. text_lines_from (length text) (length s.told) number bytes) whole.bytes
+          ∙ text-whole (length text) (length s.told) number line.text rest opened room;
+      told = s.told ++ (line.text ++ 10 ∷ []);
+      text_is = s.text_is ∙ ap (λ bytes. s.told ++ bytes) (whole.bytes ∙ sym (append_assoc line.text (10 ∷ []) rest)) ∙ sym (append_assoc s.told (line.text ++ 10 ∷ []) rest);
+      later_is = ap (λ n. text_lines_from (length text) n (number + 1) rest) behind;
       last = λ ended. absurd (let bad : over.Going ≡ over.Ended = sym whole.going ∙ ended in cc);
     }
 
@@ -52,17 +63,16 @@ comes-last : (text : List ℕ) (old held : HeldBytes) (left now : List ℕ) (num
     → RoundBegins text old left number lines → HandsLast old left line held now → LineComes text line.text held now number lines
 comes-last text old held left now number lines line before s last =
     let opened : IsOpenLine 0 line.text = open-anew old.before line.text before last.one_line in
-    let size : length text ≡ s.done + length line.text = subst (λ rest. length text ≡ s.done + length rest) last.bytes s.size in
-    let room : s.done + length line.text ≤ length text = omega (arith, size) in
+    let size : length text ≡ length s.told + length line.text = subst (λ rest. length text ≡ length s.told + length rest) last.bytes (begins-size text old left number lines s) in
+    let room : length s.told + length line.text ≤ length text = omega (arith, size) in
     let none : held.pending ++ now ≡ [] = ap (λ l. l ++ now) last.pending_new ∙ last.none in
-    let short : length (held.pending ++ now) ≡ 0 = ap length none in
     record {
       later = ends_at EndOfInput;
-      lines_are = s.lines_are ∙ ap (λ rest. text_lines_from (length text) s.done number rest) last.bytes
-          ∙ text-last (length text) s.done number line.text opened room last.some;
-      done = s.done + length line.text;
-      size = omega (arith, size, short);
-      later_is = subst (λ rest. ends_at EndOfInput ≡ text_lines_from (length text) (s.done + length line.text) (number + 1) rest) (sym none) refl;
+      lines_are = s.lines_are ∙ ap (λ rest. text_lines_from (length text) (length s.told) number rest) last.bytes
+          ∙ text-last (length text) (length s.told) number line.text opened room last.some;
+      told = s.told ++ line.text;
+      text_is = s.text_is ∙ ap (λ bytes. s.told ++ bytes) last.bytes ∙ sym (append-nil (s.told ++ line.text)) ∙ ap (λ bytes. (s.told ++ line.text) ++ bytes) (sym none);
+      later_is = subst (λ rest. ends_at EndOfInput ≡ text_lines_from (length text) (length (s.told ++ line.text)) (number + 1) rest) (sym none) refl;
       last = λ ended. none;
     }
 
@@ -86,9 +96,9 @@ passes-appends telling at at_new line number (UnsaidBy why) o n (leaves, at_is, 
 next-round : (text line : List ℕ) (held new : HeldBytes) (now : List ℕ) (number : ℕ) (lines : ScriptLines) (c : LineComes text line held now number lines)
     → new.pending ≡ held.pending → new.over ≡ held.over → RoundBegins text new now (number + 1) c.later
 next-round text line held new now number lines c pending_is over_is = record {
-  done = c.done;
-  size = subst (λ p. length text ≡ c.done + length (p ++ now)) (sym pending_is) c.size;
-  lines_are = c.later_is ∙ ap (λ p. text_lines_from (length text) c.done (number + 1) (p ++ now)) (sym pending_is);
+  told = c.told;
+  text_is = c.text_is ∙ ap (λ p. c.told ++ (p ++ now)) (sym pending_is);
+  lines_are = c.later_is ∙ ap (λ p. text_lines_from (length text) (length c.told) (number + 1) (p ++ now)) (sym pending_is);
   last = λ ended. ap (λ p. p ++ now) pending_is ∙ c.last (sym over_is ∙ ended);
 }
 
@@ -221,15 +231,15 @@ last-ends Known telling at text last result o n (inr (is, appends)) =
 -- the end of the input
 pub at-end : (text : List ℕ) (old : HeldBytes) (left : List ℕ) (number : ℕ) (lines : ScriptLines)
     → RoundBegins text old left number lines → old.pending ++ left ≡ [] → lines ≡ ends_at EndOfInput
-at-end text old left number lines s none = s.lines_are ∙ ap (λ rest. text_lines_from (length text) s.done number rest) none
+at-end text old left number lines s none = s.lines_are ∙ ap (λ rest. text_lines_from (length text) (length s.told) number rest) none
 
 -- a byte at fault
 pub at-fault : (text : List ℕ) (old : HeldBytes) (left : List ℕ) (number : ℕ) (lines : ScriptLines) (f : LineFault)
     → RoundBegins text old left number lines → lines_of (old.pending ++ left) ≡ ends_at (Faulty f) → lines ≡ ends_at (Faulty (at_line number f))
 at-fault text old left number lines f s faulty =
-    let size = s.size in
-    let room : s.done + length (old.pending ++ left) ≤ length text = omega (arith, size) in
-    s.lines_are ∙ (text-fault (length text) s.done number (old.pending ++ left) f room faulty).0
+    let size = begins-size text old left number lines s in
+    let room : length s.told + length (old.pending ++ left) ≤ length text = omega (arith, size) in
+    s.lines_are ∙ (text-fault (length text) (length s.told) number (old.pending ++ left) f room faulty).0
 
 -- no text is too long for a script
 pub fault-of-line : (bytes : List ℕ) (f : LineFault) → lines_of bytes ≡ ends_at (Faulty f) → IsOfLine f
@@ -248,3 +258,25 @@ open-few size done number (byte ∷ bytes) opened room =
     let one : text_lines_from size done number (byte ∷ bytes) ≡ onto_lines (record { number = number; text = byte ∷ bytes }) (ends_at EndOfInput)
     = text-last size done number (byte ∷ bytes) opened room (λ e. absurd (cc)) in
     record { few = subst (λ (l : ScriptLines). length l.lines ≤ 1) (sym one) (omega arith); last = ap (λ (l : ScriptLines). l.last) one }
+
+-- it has no line feed
+plain-end : (front : List ℕ) → AllByRecursion (λ byte. IsTrue (is_of_line byte)) (front ++ 10 ∷ []) → ⊥
+plain-end [] all = let bad : false ≡ true = all.0 in absurd (cc)
+plain-end (byte ∷ front) all = plain-end front all.1
+
+feed-behind : (told : List ℕ) (byte : ℕ) (bytes front : List ℕ) → AllByRecursion (λ b. IsTrue (is_of_line b)) (byte ∷ bytes) → told ++ byte ∷ bytes ≡ front ++ 10 ∷ [] → ⊥
+feed-behind [] byte bytes front all is = plain-end front (subst (λ l. AllByRecursion (λ b. IsTrue (is_of_line b)) l) is all)
+feed-behind (first ∷ told) byte bytes [] all is =
+    let long = length-append told (byte ∷ bytes) in
+    let same : length (first ∷ (told ++ byte ∷ bytes)) ≡ 1 = ap length is in
+    omega (arith, long, same)
+feed-behind (first ∷ told) byte bytes (b ∷ front) all is = feed-behind told byte bytes front all (ap (λ l. drop 1 l) is)
+
+-- so it is empty where a text ends with one that it stands at the end of
+pub open-none : (told tail : List ℕ) → IsOpenLine 0 tail → EndsLine (told ++ tail) → tail ≡ []
+open-none told [] opened ends = refl
+open-none told (byte ∷ bytes) opened ends = absurd (feed-behind told byte bytes ends.0 opened.plain ends.1)
+
+-- and has no lines then
+pub none-left : (size done number : ℕ) (text : List ℕ) → text ≡ [] → (text_lines_from size done number text).lines ≡ []
+none-left size done number text none = ap (λ t. (text_lines_from size done number t).lines) none

@@ -14,9 +14,9 @@ use Rattle.script_lines.proofs.Turns.{may-all, may-first, may-second, no-more}
 use Rattle.script_runs.specs.declared.Status.{Status}
 use Rattle.script_runs.specs.declared.Status.TheVariants as status
 use Rattle.import_lines.specs.Import.{Telling, LineFate, IsSaid, IsLeftOut, IsFate, AreFates, line_of_fate, bytes_of_fate, known_behind, known_after, left_out_of}
-use Rattle.import_lines.specs.Imported.{EndsBy, IsImported, ToldAll, ImportsBy}
+use Rattle.import_lines.specs.Imported.{EndsBy, EndsLine, IsImported, ToldAll, ImportsBy}
 use Rattle.import_lines.specs.Rounds.{Standing, IsAnew, RoundBegins, GoesOn, RoundsBy, stands_behind}
-use Rattle.import_lines.proofs.ScriptParts.{FewLines, open-few}
+use Rattle.import_lines.proofs.ScriptParts.{FewLines, begins-size, none-left, open-few, open-none}
 
 -- ---- the fates of several lines
 
@@ -91,8 +91,8 @@ begins-first : (text now : List ℕ) → MayGive text [] now → RoundBegins tex
 begins-first text now may =
     let same : text ≡ now = may.bytes in
     record {
-      done = 0;
-      size = let long = ap length same in omega (arith, long);
+      told = [];
+      text_is = same;
       lines_are = ap (λ b. text_lines_from (length text) 0 1 b) same;
       last = λ ended. absurd (cc);
     }
@@ -155,12 +155,16 @@ told-all : (Known : Type 0) → (telling : Telling Known) (leave_out : Bool) (kn
     → (was : Stood telling leave_out known text before old left number at) → EndsBy Known telling at.leave_out at.known at.left_out was.rest.lines was.rest.last answer written
     → IsOpenLine 0 (old.pending ++ left) → ToldAll telling leave_out known text answer (before ++ written)
 told-all Known telling leave_out known text before written old left number at answer was ends opened =
-    let size = was.begins.size in
-    let room : was.begins.done + length (old.pending ++ left) ≤ length text = omega (arith, size) in
-    let few : FewLines was.rest = subst FewLines (sym was.begins.lines_are) (open-few (length text) was.begins.done number (old.pending ++ left) opened room) in
+    let begins = was.begins in
+    let size = begins-size text old left number was.rest begins in
+    let room : length begins.told + length (old.pending ++ left) ≤ length text = omega (arith, size) in
+    let few : FewLines was.rest = subst FewLines (sym begins.lines_are) (open-few (length text) (length begins.told) number (old.pending ++ left) opened room) in
     record {
       told = imported Known telling leave_out known text before written old left number at answer was ends;
       few = few.few;
+      whole = λ feed.
+          let none = open-none begins.told (old.pending ++ left) opened (subst EndsLine begins.text_is feed) in
+          ap (λ (l : ScriptLines). l.lines) begins.lines_are ∙ none-left (length text) (length begins.told) number (old.pending ++ left) none;
       last = ap (λ (l : ScriptLines). l.last) was.lines_are ∙ few.last;
     }
 

@@ -41,11 +41,16 @@ pub record IsImported {Known : Type 0} (telling : Telling Known) (leave_out : Bo
   pub written_is : written ≡ concat (map bytes_of_fate fates) ++ tail
   pub ends : EndsBy Known telling leave_out (known_after Known telling known fates) (left_out_of fates) rest (text_lines text).last answer tail
 
--- And of the bytes that came before a failed read each line was told: none is at fault, and none is left but perhaps the last one,
--- which may be a part of a longer one.
+-- these bytes end with a line feed
+abbrev pub EndsLine : List ℕ → Type 0
+EndsLine bytes = (front : List ℕ) × (bytes ≡ front ++ 10 ∷ [])
+
+-- And of the bytes that came before a failed read each whole line was told: none is at fault, and none is left but the bytes behind
+-- the last line feed, a part of a line. So none is left where the last byte that came is a line feed.
 pub record ToldAll {Known : Type 0} (telling : Telling Known) (leave_out : Bool) (known : Known) (came : List ℕ) (answer : Status) (written : List ℕ) : Type 0 where
   pub told : IsImported telling leave_out known came answer written
   pub few : length told.rest ≤ 1
+  pub whole : EndsLine came → told.rest ≡ []
   pub last : (text_lines came).last ≡ EndOfInput
 
 -- What an import comes to whose source gave these pieces: what was written is right whatever bytes come behind them.

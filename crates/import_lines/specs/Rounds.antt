@@ -33,11 +33,12 @@ pub record IsAnew (held : HeldBytes) : Type 0 where
   pub number : held.number ≡ 1
   pub goes_on : MayGoOn held.over
 
--- A round begins here, at the line of this number, with these bytes held and those to come: these are the lines of the rest.
+-- A round begins here, at the line of this number, with these bytes held and those to come: they are the text behind what was
+-- told of it, and these are their lines.
 pub record RoundBegins (text : List ℕ) (held : HeldBytes) (left : List ℕ) (number : ℕ) (lines : ScriptLines) : Type 0 where
-  pub done : ℕ
-  pub size : length text ≡ done + length (held.pending ++ left)
-  pub lines_are : lines ≡ text_lines_from (length text) done number (held.pending ++ left)
+  pub told : List ℕ
+  pub text_is : text ≡ told ++ (held.pending ++ left)
+  pub lines_are : lines ≡ text_lines_from (length text) (length told) number (held.pending ++ left)
   pub last : held.over ≡ over.Ended → held.pending ++ left ≡ []
 
 -- a round that goes on has told the first of these lines, and the next one begins behind it

@@ -46,7 +46,7 @@ impl<F: LineFormat> Model for Importing<F> {
 /// script names it, and what the format writes behind all lines isn't there. `ReadFault` comes exactly where the source
 /// failed, `WriteFault` exactly where the sink did, and `Memory` for want of memory alone: the lines that were told by then
 /// stand in the script, where the sink failed perhaps with a part of the next one or all of it. Where the source failed these
-/// are all lines that came but perhaps the last one.
+/// are all lines that came whole, with their line feed.
 pub fn import<F: LineFormat, S: Source, K: Sink>(
     alloc: Global,
     format: F,

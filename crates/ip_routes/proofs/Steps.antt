@@ -14,7 +14,7 @@ use Rattle.ip_routes.specs.declared.attributes.Why.{Why}
 use Rattle.ip_routes.specs.declared.attributes.Why.TheVariants as why
 use Rattle.ip_routes.specs.declared.reading.Expects.{Expects}
 use Rattle.ip_routes.specs.declared.reading.Expects.TheVariants as expects
-use Rattle.ip_routes.specs.Words.{is_another_kind, kind_of, attribute_of}
+use Rattle.ip_routes.specs.Words.{is_another_kind, kind_of, attribute_in}
 use Rattle.ip_routes.specs.Reading.{RouteReading, prefix_text, every_address, missing_length, with_block, read_prefix, with_kind, read_first, put_bytes, put_hop, spaced, expecting, behind_value, read_hop_value, read_as, step_as, step, way_by, way_of, end_as, ended_by, goes_on, read_words}
 
 -- ---- a bound
@@ -149,8 +149,10 @@ value-read seen held word next r next_is held_is is =
 
 -- ---- a word by what it is
 
-pub as-read : (seen : RouteReading) (word : List ℕ) (asks : Attribute) (r : Result RouteReading Why) → asks ≡ attribute_of word → r ≡ read_as seen word asks → r ≡ read_as seen word (attribute_of word)
-as-read seen word asks r asks_is is = is ∙ ap (λ a. read_as seen word a) asks_is
+pub as-read : (version : IpVersion) (seen : RouteReading) (word : List ℕ) (gone : Bool) (asks : Attribute) (r : Result RouteReading Why) → gone ≡ seen.gone → asks ≡ attribute_in version gone word → r ≡ read_as seen word asks
+    → r ≡ read_as seen word (attribute_in version seen.gone word)
+as-read version seen word gone asks r gone_is asks_is is =
+    is ∙ ap (λ a. read_as seen word a) (asks_is ∙ ap (λ g. attribute_in version g word) gone_is)
 
 pub step-by : (version : IpVersion) (seen : RouteReading) (word : List ℕ) (asked : Expects) (r : Result RouteReading Why) → asked ≡ seen.expects → r ≡ step_as version seen word asked → r ≡ step version seen word
 step-by version seen word asked r asked_is is = is ∙ ap (λ e. step_as version seen word e) asked_is

@@ -1,6 +1,10 @@
 -- The numbers of next hops, and what a line comes to.
-use Rattle.std.proofs.Common.{◌≡◌, ◌<◌, ◌≤◌, ◌+◌, ℕ, true, false, cond, Some, None, Result, Err, IfOk, OnOk, List, [], ◌∷◌, ◌++◌, length, drop, get_or, sym, ap, ◌∙◌, subst, append-nil, append_assoc}
-use Rattle.std.proofs.lemmas.List.{at_drop_more, at_drop_all}
+use Rattle.std.proofs.Common.{◌≡◌, ◌+◌, ℕ, Bool, true, false, cond, ◌||◌, Option, Some, None, Result, Err, IfOk, OnOk, List, [], ◌∷◌, ◌++◌, length, length-append, position, refl, sym, ap, ◌∙◌, subst, append-nil, append_assoc}
+use Rattle.std.specs.Prelude.{Vec, map, option_map}
+use Rattle.std.specs.List.{list_any, position_from}
+use Rattle.std.proofs.lemmas.List.{length-map, map-append}
+use Rattle.std.proofs.lemmas.Iterator.Adapters.{position_from-zero}
+use Rattle.indexmap.specs.IndexSet.{insert_key}
 use Rattle.std.specs.Str.{bytes_eq}
 use Rattle.rule_model.specs.declared.IpVersion.{IpVersion}
 use Rattle.rule_model.specs.AddressBlock.{AddressBlock, same_block}
@@ -17,25 +21,50 @@ use Rattle.ip_routes.specs.Telling.{Known, number_from, hop_number, number_by, w
 
 -- ---- the number of a next hop
 
--- the one at a place
-number-at : (hops : List (List ℕ)) (way : List ℕ) (number place : ℕ) (hop : List ℕ) → place < length hops → hop ≡ get_or hops place hop
-    → number_from number (drop place hops) way ≡ cond (bytes_eq hop way) (Some number) (number_from (number + 1) (drop (place + 1) hops) way)
-number-at hops way number place hop below is =
-    at_drop_more (λ l. number_from number l way) hops place hop below
-    ∙ ap (λ h. cond (bytes_eq h way) (Some number) (number_from (number + 1) (drop (place + 1) hops) way)) (sym is)
+-- the one at a place, where the words of several are told by this
+number-at : {K : Type 0} → (words : K → List ℕ) (way : List ℕ) (ways : List K) (place number : ℕ) → number ≡ place + 1
+    → option_map (λ p. p + 1) (position_from (λ k. bytes_eq way (words k)) place ways) ≡ number_from number (map words ways) way
+number-at words way [] place number is = refl
+number-at words way (first ∷ ways) place number is = by (bytes_eq way (words first)) (number-at words way ways (place + 1) (number + 1) (ap (λ n. n + 1) is))
+  where
+    by : (b : Bool) → option_map (λ p. p + 1) (position_from (λ k. bytes_eq way (words k)) (place + 1) ways) ≡ number_from (number + 1) (map words ways) way
+        → option_map (λ p. p + 1) (cond b (Some place) (position_from (λ k. bytes_eq way (words k)) (place + 1) ways)) ≡ cond b (Some number) (number_from (number + 1) (map words ways) way)
+    by true behind = ap Some (sym is)
+    by false behind = behind
 
-pub number-found : (hops : List (List ℕ)) (way : List ℕ) (number place : ℕ) (hop : List ℕ) → place < length hops → hop ≡ get_or hops place hop → bytes_eq hop way ≡ true
-    → number_from number (drop place hops) way ≡ Some number
-number-found hops way number place hop below is same =
-    number-at hops way number place hop below is ∙ ap (λ b. cond b (Some number) (number_from (number + 1) (drop (place + 1) hops) way)) same
+pub place-number : {K : Type 0} → (words : K → List ℕ) (way : List ℕ) (ways : List K) (found : Option ℕ) → found ≡ position (λ k. bytes_eq way (words k)) ways
+    → option_map (λ p. p + 1) found ≡ hop_number (map words ways) way
+place-number words way ways found is =
+    ap (λ f. option_map (λ p. p + 1) f) (is ∙ position_from-zero (λ k. bytes_eq way (words k)) ways) ∙ number-at words way ways 0 1 refl
 
-pub number-passed : (hops : List (List ℕ)) (way : List ℕ) (number place : ℕ) (hop : List ℕ) → place < length hops → hop ≡ get_or hops place hop → bytes_eq hop way ≡ false
-    → number_from number (drop place hops) way ≡ number_from (number + 1) (drop (place + 1) hops) way
-number-passed hops way number place hop below is other =
-    number-at hops way number place hop below is ∙ ap (λ b. cond b (Some number) (number_from (number + 1) (drop (place + 1) hops) way)) other
+-- one that has none is put behind the others
+none-among : {K : Type 0} → (words : K → List ℕ) (way : List ℕ) (ways : List K) (number : ℕ) → number_from number (map words ways) way ≡ None → list_any (λ k. bytes_eq way (words k)) ways ≡ false
+none-among words way [] number none = refl
+none-among words way (first ∷ ways) number none = by (bytes_eq way (words first)) none (none-among words way ways (number + 1))
+  where
+    by : (b : Bool) → cond b (Some number) (number_from (number + 1) (map words ways) way) ≡ None → (number_from (number + 1) (map words ways) way ≡ None → list_any (λ k. bytes_eq way (words k)) ways ≡ false)
+        → (b || list_any (λ k. bytes_eq way (words k)) ways) ≡ false
+    by true some behind = absurd (cc)
+    by false behind_none behind = behind behind_none
 
-pub number-none : (hops : List (List ℕ)) (way : List ℕ) (number place : ℕ) → length hops ≤ place → number_from number (drop place hops) way ≡ None
-number-none hops way number place all = at_drop_all (λ l. number_from number l way) hops place all
+pub added-last : {K : Type 0} → (words : K → List ℕ) (way : List ℕ) (ways new : List K) (key : K) → hop_number (map words ways) way ≡ None → words key ≡ way
+    → new ≡ insert_key (λ a b. bytes_eq (words a) (words b)) ways key → map words new ≡ map words ways ++ way ∷ []
+added-last words way ways new key none key_is is =
+    ap (λ l. map words l) (is ∙ ap (λ b. cond b ways (ways ++ key ∷ [])) (ap (λ w. list_any (λ k. bytes_eq w (words k)) ways) key_is ∙ none-among words way ways 1 none))
+    ∙ map-append words ways (key ∷ []) ∙ ap (λ w. map words ways ++ w ∷ []) key_is
+
+-- the ways of the table, in their words
+pub way-place : {Z : Type 0} → (way : List ℕ) (ways : List (Vec ℕ Z)) (hops : List (List ℕ)) (found : Option ℕ) → map (λ (w : Vec ℕ Z). w.items) ways ≡ hops
+    → found ≡ position (λ (k : Vec ℕ Z). bytes_eq way k.items) ways → option_map (λ p. p + 1) found ≡ hop_number hops way
+way-place {Z} way ways hops found view_is is = place-number (λ (w : Vec ℕ Z). w.items) way ways found is ∙ ap (λ h. hop_number h way) view_is
+
+pub way-added : {Z : Type 0} → (way : List ℕ) (ways new : List (Vec ℕ Z)) (hops : List (List ℕ)) (key : Vec ℕ Z) → map (λ (w : Vec ℕ Z). w.items) ways ≡ hops → None ≡ hop_number hops way → key.items ≡ way
+    → new ≡ insert_key (λ (a b : Vec ℕ Z). bytes_eq a.items b.items) ways key → map (λ (w : Vec ℕ Z). w.items) new ≡ hops ++ way ∷ []
+way-added {Z} way ways new hops key view_is none key_is is =
+    added-last (λ (w : Vec ℕ Z). w.items) way ways new key (ap (λ h. hop_number h way) view_is ∙ sym none) key_is is ∙ ap (λ h. h ++ way ∷ []) view_is
+
+pub way-count : {Z : Type 0} → (way : List ℕ) (new : List (Vec ℕ Z)) (hops : List (List ℕ)) → map (λ (w : Vec ℕ Z). w.items) new ≡ hops ++ way ∷ [] → length new ≡ length hops + 1
+way-count {Z} way new hops is = sym (length-map new (λ (w : Vec ℕ Z). w.items)) ∙ ap length is ∙ length-append hops (way ∷ [])
 
 -- it has one
 way-found : (held hops : List (List ℕ)) (way : List ℕ) (number : ℕ) → held ≡ hops → Some number ≡ hop_number held way → hop_number hops way ≡ Some number

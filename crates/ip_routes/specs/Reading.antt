@@ -1,5 +1,5 @@
 -- What the words of a line say of a route.
-use Rattle.std.specs.Prelude.{ℕ, ◌+◌, Bool, ◌==◌, nat_le, Result, Ok, Err, Option, Some, None, List, [], ◌∷◌, ◌++◌, codes, length, if◌then◌else◌}
+use Rattle.std.specs.Prelude.{ℕ, ◌+◌, Bool, false, ◌==◌, nat_le, Result, Ok, Err, Option, Some, None, List, [], ◌∷◌, ◌++◌, codes, length, if◌then◌else◌}
 use Rattle.std.specs.List.{list_any}
 use Rattle.std.specs.Str.{bytes_eq}
 use Rattle.rule_model.specs.declared.IpVersion.{IpVersion}
@@ -16,11 +16,12 @@ use Rattle.ip_routes.specs.declared.attributes.Why.{Why}
 use Rattle.ip_routes.specs.declared.attributes.Why.TheVariants as why
 use Rattle.ip_routes.specs.declared.reading.Expects.{Expects}
 use Rattle.ip_routes.specs.declared.reading.Expects.TheVariants as expects
-use Rattle.ip_routes.specs.Words.{kind_of, is_another_kind, attribute_of, why_of, is_family}
+use Rattle.ip_routes.specs.Words.{kind_of, is_another_kind, attribute_in, why_of, is_family}
 
--- what the words of a line have said so far: what the next one is to be, the kind of route, its prefix, and as a script has
--- it, its metric, and its next hop
+-- what the words of a line have said so far: whether the route goes, what the next word is to be, the kind of route, its prefix,
+-- and as a script has it, its metric, and its next hop
 pub record RouteReading : Type 0 where
+  pub gone : Bool
   pub expects : Expects
   pub kind : RouteKind
   pub block : AddressBlock
@@ -28,9 +29,13 @@ pub record RouteReading : Type 0 where
   pub metric : ℕ
   pub hop : List ℕ
 
--- before the first word
+-- before the first word, of a route that goes or of one that stands
+abbrev pub reading_of : Bool → RouteReading
+reading_of gone =
+    record { gone = gone; expects = expects.Kind; kind = kind.Unicast; block = any_address; text = []; metric = 0; hop = [] }
+
 abbrev pub first_reading : RouteReading
-first_reading = record { expects = expects.Kind; kind = kind.Unicast; block = any_address; text = []; metric = 0; hop = [] }
+first_reading = reading_of false
 
 -- what is said behind a word, or why the line isn't said
 abbrev pub said_or : Result (Unit {0}) Why → RouteReading → Result RouteReading Why
@@ -116,7 +121,7 @@ read_metric seen (Err fault) = Err why.Metric
 abbrev pub step_as : IpVersion → RouteReading → List ℕ → Expects → Result RouteReading Why
 step_as version seen word expects.Kind = read_first version seen word
 step_as version seen word expects.Prefix = read_prefix version seen word
-step_as version seen word expects.Attribute = read_as seen word (attribute_of word)
+step_as version seen word expects.Attribute = read_as seen word (attribute_in version seen.gone word)
 step_as version seen word expects.HopValue = read_hop_value seen word
 step_as version seen word expects.Skipped = Ok (expecting expects.Attribute seen)
 step_as version seen word expects.Metric = read_metric seen (result_of word)

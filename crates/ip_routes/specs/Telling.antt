@@ -23,7 +23,7 @@ pub record Known : Type 0 where
 -- the number of a next hop, if it has one, where the first one here has this
 abbrev pub number_from : ℕ → List (List ℕ) → List ℕ → Option ℕ
 number_from number [] way = None
-number_from number (hop ∷ hops) way = if bytes_eq hop way then Some number else number_from (number + 1) hops way
+number_from number (hop ∷ hops) way = if bytes_eq way hop then Some number else number_from (number + 1) hops way
 
 abbrev pub hop_number : List (List ℕ) → List ℕ → Option ℕ
 hop_number hops way = number_from 1 hops way

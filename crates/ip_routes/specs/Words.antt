@@ -1,7 +1,9 @@
 -- The words of a line that `ip` prints, and what each asks for.
-use Rattle.std.specs.Prelude.{ℕ, Bool, ◌==◌, ◌||◌, Option, Some, None, List, codes, filter, if◌then◌else◌}
+use Rattle.std.specs.Prelude.{ℕ, Bool, ◌==◌, ◌&&◌, ◌||◌, Option, Some, None, List, codes, filter, if◌then◌else◌}
 use Rattle.std.specs.List.{slice_split}
 use Rattle.std.specs.Str.{bytes_eq}
+use Rattle.rule_model.specs.declared.IpVersion.{IpVersion}
+use Rattle.rule_model.specs.declared.IpVersion.TheVariants.{V4, V6}
 use Rattle.line_words.specs.Words.{is_word}
 use Rattle.ip_routes.specs.declared.attributes.RouteKind.{RouteKind}
 use Rattle.ip_routes.specs.declared.attributes.RouteKind.TheVariants as kind
@@ -31,7 +33,8 @@ kind_of word =
 abbrev pub is_another_kind : List ℕ → Bool
 is_another_kind word =
     bytes_eq word (codes "local") || bytes_eq word (codes "broadcast") || bytes_eq word (codes "multicast")
-    || bytes_eq word (codes "anycast") || bytes_eq word (codes "throw") || bytes_eq word (codes "nat") || bytes_eq word (codes "xresolve")
+    || bytes_eq word (codes "anycast") || bytes_eq word (codes "throw") || bytes_eq word (codes "nat")
+    || bytes_eq word (codes "xresolve")
 
 -- a word that is a part of the next hop, and so is the one behind it
 abbrev pub is_hop_value : List ℕ → Bool
@@ -74,12 +77,26 @@ is_service word = bytes_eq word (codes "tos") || bytes_eq word (codes "dsfield")
 abbrev pub is_down : List ℕ → Bool
 is_down word = bytes_eq word (codes "dead") || bytes_eq word (codes "linkdown") || bytes_eq word (codes "unresolved")
 
+-- the same of a route that goes: whether it was in use doesn't matter then
+abbrev pub attribute_for : Bool → List ℕ → Attribute
+attribute_for gone word = if gone && is_down word then attribute.Flag else attribute_of word
+
+-- a router's preference, which a route of IPv6 has
+abbrev pub is_preference : List ℕ → Bool
+is_preference word = bytes_eq word (codes "pref")
+
+-- the same by the version of IP: of IPv4 no route has a preference
+abbrev pub attribute_in : IpVersion → Bool → List ℕ → Attribute
+attribute_in V4 gone word = if is_preference word then attribute.Unsaid else attribute_for gone word
+attribute_in V6 gone word = attribute_for gone word
+
 -- why a line isn't said that has this word where one is that says something of the route
 abbrev pub why_of : List ℕ → Why
 why_of word =
     if bytes_eq word (codes "table") then why.Table
     else if is_service word then why.Service
     else if bytes_eq word (codes "from") then why.Sender
+    else if is_preference word then why.Version
     else if bytes_eq word (codes "encap") then why.Encap
     else if is_down word then why.Down
     else why.Word
@@ -93,6 +110,7 @@ abbrev pub why_text : Why → List ℕ
 why_text why.Kind = codes "kind of route"
 why_text why.Prefix = codes "no prefix"
 why_text why.Table = codes "another table"
+why_text why.Version = codes "another version"
 why_text why.Service = codes "type of service"
 why_text why.Sender = codes "by sender"
 why_text why.Encap = codes "encapsulation"
@@ -104,3 +122,4 @@ why_text why.Hop = codes "no next hop"
 why_text why.LongHop = codes "long next hop"
 why_text why.Order = codes "order of metrics"
 why_text why.Equal = codes "same metric"
+why_text why.OtherHop = codes "another next hop"

@@ -2,11 +2,13 @@
 
 ghost use Rattle.std.specs.Prelude.{◌≡◌};
 ghost use Rattle.std.specs.Str.{bytes_eq};
-ghost use Rattle.ip_routes.specs.Words.{attribute_of, is_another_kind, is_down, is_family, is_flag, is_hop_value, is_of_origin, is_of_sending, is_service, kind_of, why_of, why_text};
+ghost use Rattle.ip_routes.specs.Words.{attribute_for, attribute_in, attribute_of, is_another_kind, is_down, is_family, is_flag, is_hop_value, is_of_origin, is_of_sending, is_preference, is_service, kind_of, why_of, why_text};
+
+use rule_model::IpVersion;
 
 /// Where packets of a route go.
 #[derive(Clone, Copy, Debug, PartialEq, Eq)]
-pub(crate) enum RouteKind {
+pub enum RouteKind {
     /// To the next hop that the line names.
     Unicast,
     /// Nowhere, and nothing is said.
@@ -36,13 +38,15 @@ pub(crate) enum Attribute {
 
 /// Why a line isn't said.
 #[derive(Clone, Copy, Debug, PartialEq, Eq)]
-pub(crate) enum Why {
+pub enum Why {
     /// A route of this kind has no answer of its own.
     Kind,
     /// The word is no prefix of this version of IP.
     Prefix,
     /// The route stands in another table.
     Table,
+    /// It is one of the other version of IP.
+    Version,
     /// It holds for packets of one type of service.
     Service,
     /// It holds for packets of some senders.
@@ -65,6 +69,8 @@ pub(crate) enum Why {
     Order,
     /// The route of this prefix before it has the same metric, and in IPv6 either may count.
     Equal,
+    /// A route goes, and the one of its prefix and metric that is known has another next hop.
+    OtherHop,
 }
 
 impl Why {
@@ -76,6 +82,7 @@ impl Why {
             Why::Kind => "kind of route",
             Why::Prefix => "no prefix",
             Why::Table => "another table",
+            Why::Version => "another version",
             Why::Service => "type of service",
             Why::Sender => "by sender",
             Why::Encap => "encapsulation",
@@ -87,12 +94,13 @@ impl Why {
             Why::LongHop => "long next hop",
             Why::Order => "order of metrics",
             Why::Equal => "same metric",
+            Why::OtherHop => "another next hop",
         }
     }
 }
 
 /// The kind of route that a word names, if it names one that is said.
-pub(crate) fn kind_of(word: &[u8]) -> Option<RouteKind>
+pub fn kind_of(word: &[u8]) -> Option<RouteKind>
     ensures { result ≡ kind_of word.now }
 {
     if is_named(word, b"unicast") {
@@ -110,7 +118,7 @@ pub(crate) fn kind_of(word: &[u8]) -> Option<RouteKind>
 
 /// Whether a word names a kind of route that leads to something else than one place: to this machine, to several, or to
 /// another table.
-pub(crate) fn is_another_kind(word: &[u8]) -> bool
+pub fn is_another_kind(word: &[u8]) -> bool
     ensures { result ≡ is_another_kind word.now }
 {
     is_named(word, b"local")
@@ -123,7 +131,7 @@ pub(crate) fn is_another_kind(word: &[u8]) -> bool
 }
 
 /// What a word behind the prefix asks for.
-pub(crate) fn attribute_of(word: &[u8]) -> Attribute
+fn attribute_of(word: &[u8]) -> Attribute
     ensures { result ≡ attribute_of word.now }
 {
     if is_named(word, b"nexthop") {
@@ -183,6 +191,44 @@ fn is_of_sending(word: &[u8]) -> bool
         || is_named(word, b"error")
 }
 
+/// What a word behind the prefix asks for, of a route that goes or of one that stands: of one that goes it doesn't matter
+/// whether it was in use.
+fn attribute_for(gone: bool, word: &[u8]) -> Attribute
+    ensures { result ≡ attribute_for gone word.now }
+{
+    if gone && is_down(word) {
+        return Attribute::Flag;
+    }
+    attribute_of(word)
+}
+
+/// The same by the version of IP: of IPv4 no route has a preference.
+pub(crate) fn attribute_in(version: IpVersion, gone: bool, word: &[u8]) -> Attribute
+    ensures { result ≡ attribute_in version gone word.now }
+{
+    match version {
+        IpVersion::V4 => attribute_in_four(gone, word),
+        IpVersion::V6 => attribute_for(gone, word),
+    }
+}
+
+/// The same of IPv4.
+fn attribute_in_four(gone: bool, word: &[u8]) -> Attribute
+    ensures { result ≡ attribute_in IpVersion.V4 gone word.now }
+{
+    if is_preference(word) {
+        return Attribute::Unsaid;
+    }
+    attribute_for(gone, word)
+}
+
+/// A router's preference, which a route of IPv6 has.
+fn is_preference(word: &[u8]) -> bool
+    ensures { result ≡ is_preference word.now }
+{
+    is_named(word, b"pref")
+}
+
 /// Why a line isn't said that has this word where one is that says something of the route.
 pub(crate) fn why_of(word: &[u8]) -> Why
     ensures { result ≡ why_of word.now }
@@ -193,6 +239,8 @@ pub(crate) fn why_of(word: &[u8]) -> Why
         Why::Service
     } else if is_named(word, b"from") {
         Why::Sender
+    } else if is_preference(word) {
+        Why::Version
     } else if is_named(word, b"encap") {
         Why::Encap
     } else if is_down(word) {
@@ -224,7 +272,7 @@ pub(crate) fn is_family(word: &[u8]) -> bool
 }
 
 /// Whether a word is this one.
-pub(crate) fn is_named(word: &[u8], name: &[u8]) -> bool
+pub fn is_named(word: &[u8], name: &[u8]) -> bool
     ensures { result ≡ bytes_eq word.now name.now }
 {
     word == name

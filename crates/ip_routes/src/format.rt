@@ -8,7 +8,7 @@ ghost use Rattle.ip_routes.specs.Reading.{first_reading, read_words};
 ghost use Rattle.ip_routes.specs.Telling.{added, after_behind, after_of, behind_of, by_metric, known_with, no_less, route_after, route_closing, route_told, told_behind, told_of};
 
 use crate::attributes::Why;
-use crate::hops::{Hop, number_way};
+use crate::hops::{Hops, number_way};
 use crate::reading::Reading;
 use crate::telling::{put_kept, put_route, put_why};
 use crate::words::first_word;
@@ -87,7 +87,7 @@ fn behind_said(version: IpVersion, last: &SaidRoute, route: &Reading) -> Behind
 pub struct IpRoutes {
     version: IpVersion,
     // The next hops that have a number, the first of them 1.
-    hops: Vec<Hop>,
+    hops: Hops,
     // The route that was said last.
     last: Option<SaidRoute>,
 }
@@ -97,7 +97,7 @@ impl Model for IpRoutes {
 
     ghost Value = { Known };
 
-    ghost view = { λ f. record { version = f.version; hops = f.hops.items; last = f.last } };
+    ghost view = { λ f. record { version = f.version; hops = f.hops; last = f.last } };
 }
 
 impl IpRoutes {
@@ -107,7 +107,7 @@ impl IpRoutes {
     {
         IpRoutes {
             version,
-            hops: Vec::new(alloc),
+            hops: Hops::new(alloc),
             last: None,
         }
     }
@@ -124,7 +124,7 @@ impl IpRoutes {
         ensures said { IfOk result (λ answer. answer ≡ Told.Said → self.new ≡ after_of self.old (read_words self.old.version first_reading [] (gap_words text.now))) }
         ensures unsaid { IfOk result (λ answer. answer ≡ Told.Unsaid → self.new ≡ self.old) }
     {
-        let mut route = Reading::new();
+        let mut route = Reading::new(false);
         match route.read(text, self.version()) {
             Ok(()) => self.tell(alloc, &route, into),
             Err(unsaid) => {

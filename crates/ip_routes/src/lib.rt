@@ -35,4 +35,9 @@ mod reading;
 mod telling;
 mod words;
 
+pub use attributes::{RouteKind, Why, is_another_kind, is_named, kind_of};
 pub use format::IpRoutes;
+pub use hops::{Hops, number_way};
+pub use reading::Reading;
+pub use telling::{put_why, shortened};
+pub use words::first_word;

@@ -2,12 +2,12 @@
 
 ghost use Rattle.std.specs.Prelude.{◌≡◌, ◌+◌, ◌++◌, ◌==◌, [], Ok, Err, nat_le, length, IsTrue, MatchResult};
 ghost use Rattle.line_words.specs.Kinds.{result_of};
-ghost use Rattle.ip_routes.specs.Words.{attribute_of, gap_words};
+ghost use Rattle.ip_routes.specs.Words.{attribute_in, gap_words};
 ghost use Rattle.line_words.specs.Notations.{notation_for};
-ghost use Rattle.ip_routes.specs.Reading.{behind_value, end_as, every_address, expecting, first_reading, has_slash, hop_of, missing_length, prefix_text, put_bytes, put_hop, read_as, read_first, read_hop_value, read_metric, read_prefix, read_words, said_or, step, way_of, whole_length, with_block};
+ghost use Rattle.ip_routes.specs.Reading.{behind_value, end_as, every_address, expecting, has_slash, hop_of, missing_length, prefix_text, put_bytes, put_hop, read_as, read_first, read_hop_value, read_metric, read_prefix, read_words, reading_of, said_or, step, way_of, whole_length, with_block};
 
 use crate::attributes::{
-    Attribute, RouteKind, Why, attribute_of, is_another_kind, is_family, is_named, kind_of, why_of,
+    Attribute, RouteKind, Why, attribute_in, is_another_kind, is_family, is_named, kind_of, why_of,
 };
 use crate::words::first_word;
 use arrayvec::ArrayVec;
@@ -40,7 +40,9 @@ pub(crate) enum Expects {
 
 /// What the words of a line have said so far.
 #[derive(Drop)]
-pub(crate) struct Reading {
+pub struct Reading {
+    // Whether the route goes.
+    gone: bool,
     expects: Expects,
     kind: RouteKind,
     prefix: Prefix,
@@ -56,15 +58,16 @@ impl Model for Reading {
 
     ghost Value = { RouteReading };
 
-    ghost view = { λ r. record { expects = r.expects; kind = r.kind; block = r.prefix; text = r.text.items; metric = r.metric; hop = r.hop.items } };
+    ghost view = { λ r. record { gone = r.gone; expects = r.expects; kind = r.kind; block = r.prefix; text = r.text.items; metric = r.metric; hop = r.hop.items } };
 }
 
 impl Reading {
-    /// Nothing is said yet.
-    pub(crate) fn new() -> Reading
-        ensures { result ≡ first_reading }
+    /// Nothing is said yet, of a route that goes or of one that stands.
+    pub fn new(gone: bool) -> Reading
+        ensures { result ≡ reading_of gone }
     {
         Reading {
+            gone,
             expects: Expects::Kind,
             kind: RouteKind::Unicast,
             prefix: Prefix::any(),
@@ -72,6 +75,13 @@ impl Reading {
             metric: 0,
             hop: ArrayVec::new(),
         }
+    }
+
+    /// Whether the route goes.
+    fn gone(&self) -> bool
+        ensures { result ≡ self.now.gone }
+    {
+        self.gone
     }
 
     /// What the next word is to be.
@@ -89,21 +99,21 @@ impl Reading {
     }
 
     /// The prefix of the route.
-    pub(crate) fn prefix(&self) -> Prefix
+    pub fn prefix(&self) -> Prefix
         ensures { result ≡ self.now.block }
     {
         self.prefix
     }
 
     /// The prefix as a script has it.
-    pub(crate) fn text(&self) -> &[u8]
+    pub fn text(&self) -> &[u8]
         ensures { result.now ≡ self.now.text }
     {
         self.text.as_slice()
     }
 
     /// The metric of the route.
-    pub(crate) fn metric(&self) -> u32
+    pub fn metric(&self) -> u32
         ensures { result ≡ self.now.metric }
     {
         self.metric
@@ -124,7 +134,7 @@ impl Reading {
     }
 
     /// Where the route's packets go, in words.
-    pub(crate) fn way(&self) -> &[u8]
+    pub fn way(&self) -> &[u8]
         ensures { result.now ≡ way_of self.now }
     {
         match self.kind() {
@@ -143,11 +153,7 @@ impl Reading {
     }
 
     /// Reads all words of a line. Err: why it isn't said, and the word.
-    pub(crate) fn read<'t>(
-        &mut self,
-        text: &'t [u8],
-        version: IpVersion,
-    ) -> Result<(), (Why, &'t [u8])>
+    pub fn read<'t>(&mut self, text: &'t [u8], version: IpVersion) -> Result<(), (Why, &'t [u8])>
         ensures { MatchResult result (λ _. read_words version self.old [] (gap_words text.now) ≡ Ok self.new)
             (λ unsaid. read_words version self.old [] (gap_words text.now)
             ≡ Err (record { why = unsaid.0; word = unsaid.1.now })) }
@@ -178,7 +184,7 @@ impl Reading {
         match self.expects() {
             Expects::Kind => self.read_first(word, version),
             Expects::Prefix => self.read_prefix(word, version),
-            Expects::Attribute => self.read_attribute(word),
+            Expects::Attribute => self.read_attribute(word, version),
             Expects::HopValue => self.read_hop_value(word),
             Expects::Skipped => {
                 self.expect(Expects::Attribute);
@@ -213,7 +219,7 @@ impl Reading {
     }
 
     /// Reads the prefix.
-    fn read_prefix(&mut self, word: &[u8], version: IpVersion) -> Result<(), Why>
+    pub fn read_prefix(&mut self, word: &[u8], version: IpVersion) -> Result<(), Why>
         ensures { said_or result self.new ≡ read_prefix version self.old word.now }
     {
         self.text.clear();
@@ -239,10 +245,10 @@ impl Reading {
     }
 
     /// Reads a word that says what it is.
-    fn read_attribute(&mut self, word: &[u8]) -> Result<(), Why>
-        ensures { said_or result self.new ≡ read_as self.old word.now (attribute_of word.now) }
+    fn read_attribute(&mut self, word: &[u8], version: IpVersion) -> Result<(), Why>
+        ensures { said_or result self.new ≡ read_as self.old word.now (attribute_in version self.old.gone word.now) }
     {
-        match attribute_of(word) {
+        match attribute_in(version, self.gone(), word) {
             Attribute::Hop => self.put_hop(word),
             Attribute::HopValue => {
                 self.expect(Expects::HopValue);

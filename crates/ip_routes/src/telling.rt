@@ -59,7 +59,7 @@ pub(crate) fn put_kept(into: &mut Vec<u8>, route: &Reading) -> Result<(), AllocE
 }
 
 /// Puts there why a line isn't said, and the word, which is cut off where it is long.
-pub(crate) fn put_why(into: &mut Vec<u8>, why: Why, word: &[u8]) -> Result<(), AllocError>
+pub fn put_why(into: &mut Vec<u8>, why: Why, word: &[u8]) -> Result<(), AllocError>
     ensures { OnOk result (into.new.items ≡ into.old.items ++ unsaid_text why word.now) }
 {
     into.extend_from_slice(why.text().as_bytes())?;
@@ -69,7 +69,7 @@ pub(crate) fn put_why(into: &mut Vec<u8>, why: Why, word: &[u8]) -> Result<(), A
 }
 
 /// The front of a word, as long as a comment names it.
-fn shortened(word: &[u8]) -> &[u8]
+pub fn shortened(word: &[u8]) -> &[u8]
     ensures { result.now ≡ take 64 word.now }
 {
     if word.len() <= WORD_BYTES {

@@ -5,7 +5,7 @@ ghost use Rattle.std.specs.List.{position, prefix_len};
 ghost use Rattle.ip_routes.specs.Words.{gap_words, is_gap};
 
 /// The first word of a text, and what stands behind it; none where it has no word.
-pub(crate) fn first_word(text: &[u8]) -> Option<(&[u8], &[u8])>
+pub fn first_word(text: &[u8]) -> Option<(&[u8], &[u8])>
     ensures { MatchOption result (gap_words text.now ≡ []) (λ found. gap_words text.now ≡ found.0.now ∷ gap_words found.1.now) }
 {
     let solid = without_gaps(text);

@@ -5,10 +5,10 @@ use Rattle.std.proofs.lemmas.Grind.{common_steps}
 use Rattle.std.proofs.lemmas.List.Sums.{prefix_len-le-length}
 use Rattle.std.proofs.lemmas.List.Splits.{slice_split-cons_no, slice_split-cons_yes}
 use Rattle.std.specs.List.{slice_split, prefix_len, position, position_or_len, onto_first}
-use Rattle.line_words.specs.Words.{is_blank, is_word, words_of}
+use Rattle.line_words.specs.Words.{is_word}
 
 -- the words of a text that are parted where a test passes
-abbrev words_by : (ℕ → Bool) → List ℕ → List (List ℕ)
+abbrev pub words_by : (ℕ → Bool) → List ℕ → List (List ℕ)
 words_by parts text = filter is_word (slice_split parts text)
 
 -- one more is the next number
@@ -21,17 +21,13 @@ words_by-blank : (parts : ℕ → Bool) (byte : ℕ) (bytes : List ℕ) → part
 words_by-blank parts byte bytes blank = rw slice_split-cons_yes refl
 
 -- Bytes in front that part change no word.
-words_by-trimmed : (parts : ℕ → Bool) (text : List ℕ) → words_by parts (drop (prefix_len parts text) text) ≡ words_by parts text
+pub words_by-trimmed : (parts : ℕ → Bool) (text : List ℕ) → words_by parts (drop (prefix_len parts text) text) ≡ words_by parts text
 words_by-trimmed parts [] = refl
 words_by-trimmed parts (byte ∷ bytes) =
     elim (cases_Bool (parts byte)) [
       | inl blank ↦ rw (blank, one-more) (words_by-trimmed parts bytes)
       | inr solid ↦ rw solid (rw slice_split-cons_no refl)
     ]
-
--- Blanks in front change no word.
-pub words_of-trimmed : (text : List ℕ) → words_of (drop (prefix_len is_blank text) text) ≡ words_of text
-words_of-trimmed text = words_by-trimmed is_blank text
 
 -- What a text is up to its first byte that parts, and the words behind.
 record Cut (test : ℕ → Bool) (text : List ℕ) : Type 0 where
@@ -75,12 +71,12 @@ words_by-word test byte bytes solid end is =
     let cut = cut-text test bytes in
     rw (is, solid, one-more) (ap (λ parts. filter is_word (onto_first byte parts)) cut.split ∙ ap (λ words. (byte ∷ take (position_or_len test bytes) bytes) ∷ words) cut.behind)
 
--- A text that begins with no blank begins with a word.
-pub words_of-word : (text : List ℕ) (end : ℕ) → 0 < length text → is_blank (get_or text 0 0) ≡ false
-    → end ≡ position_or_len is_blank text
-    → words_of text ≡ take end text ∷ words_of (drop end text)
-words_of-word [] end some solid is = absurd (omega arith)
-words_of-word (byte ∷ bytes) end some solid is = words_by-word is_blank byte bytes solid end is
+-- A text that begins with no byte that parts begins with a word.
+pub words_by-first : (test : ℕ → Bool) (text : List ℕ) (end : ℕ) → 0 < length text → test (get_or text 0 0) ≡ false
+    → end ≡ position_or_len test text
+    → words_by test text ≡ take end text ∷ words_by test (drop end text)
+words_by-first test [] end some solid is = absurd (omega arith)
+words_by-first test (byte ∷ bytes) end some solid is = words_by-word test byte bytes solid end is
 
 -- the place of the first element that passes, or the length
 found-or-length : (place len : ℕ) → place ≤ len → unwrap_or (cond (nat_lt place len) (Some place) None) len ≡ place

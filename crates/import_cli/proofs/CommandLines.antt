@@ -1,0 +1,45 @@
+-- What some command lines ask for, by computation.
+use Rattle.std.proofs.Common.{◌≡◌, [], ◌∷◌, true, false, refl}
+use Rattle.std.specs.Prelude.{⊤, codes}
+use Rattle.clap.proofs.OnLiterals.{clap_on_literals}
+use Rattle.rule_model.specs.declared.IpVersion.TheVariants.{V4, V6}
+use Rattle.import_cli.specs.declared.asked.Format.TheVariants.{IpRoutes, IpMonitor}
+use Rattle.import_cli.specs.CommandLine.{NoJob, Tells, Imports, format_position, import_app, import_job, import_line, import_top, leave_out_flag, version_option}
+use Rattle.import_cli.specs.OwnTexts.{import_help}
+
+-- what a proof unfolds to compute what words ask for
+unfoldable the_declaration : ⊤
+unfolding clap_on_literals import_line import_top import_app format_position version_option leave_out_flag
+the_declaration = tt
+
+plain : import_job (codes "tcam" ∷ codes "import" ∷ codes "ip-routes" ∷ []) ≡ Imports IpRoutes V4 false
+unfolding the_declaration
+plain = refl
+
+of-six : import_job (codes "tcam" ∷ codes "import" ∷ codes "ip-monitor" ∷ codes "--version" ∷ codes "6" ∷ []) ≡ Imports IpMonitor V6 false
+unfolding the_declaration
+of-six = refl
+
+left-out : import_job (codes "tcam" ∷ codes "import" ∷ codes "--leave-out" ∷ codes "ip-routes" ∷ []) ≡ Imports IpRoutes V4 true
+unfolding the_declaration
+left-out = refl
+
+no-format : import_job (codes "tcam" ∷ codes "import" ∷ []) ≡ NoJob
+unfolding the_declaration
+no-format = refl
+
+no-such-format : import_job (codes "tcam" ∷ codes "import" ∷ codes "ip-rules" ∷ []) ≡ NoJob
+unfolding the_declaration
+no-such-format = refl
+
+no-such-version : import_job (codes "tcam" ∷ codes "import" ∷ codes "ip-routes" ∷ codes "--version=5" ∷ []) ≡ NoJob
+unfolding the_declaration
+no-such-version = refl
+
+help : import_job (codes "tcam" ∷ codes "import" ∷ codes "--help" ∷ []) ≡ Tells import_help
+unfolding the_declaration
+help = refl
+
+another : import_job (codes "tcam" ∷ codes "route" ∷ []) ≡ NoJob
+unfolding the_declaration
+another = refl

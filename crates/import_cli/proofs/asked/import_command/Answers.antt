@@ -1,0 +1,11 @@
+use Rattle.std.proofs.Common.{◌∙◌, ap₂}
+use Rattle.clap.specs.Words.{with_rule}
+use Rattle.import_cli.specs.CommandLine.{import_app}
+use Rattle.import_cli.proofs.asked.import_command.Goals as goal
+
+pub returns-clause-app : goal.returns-clause-app
+unfolding import_app
+returns-clause-app c =
+    let format = c.in_ok-arg.ensures.shape c.format_arg.ensures.global ∙ ap₂ with_rule c.new.ensures.app c.format_arg.ensures.rule in
+    let version = c.in_ok-arg-2.ensures.shape c.version_arg.ensures.global ∙ ap₂ with_rule format c.version_arg.ensures.rule in
+    c.in_ok-arg-3.ensures.shape c.leave_out_arg.ensures.global ∙ ap₂ with_rule version c.leave_out_arg.ensures.rule

@@ -1,0 +1,101 @@
+-- The command line of importers, by the declaration that clap is given, and what it asks for.
+use Rattle.std.specs.Prelude.{ℕ, Bool, Option, Some, None, List, [], ◌∷◌, true, codes, if◌then◌else◌}
+use Rattle.std.specs.Str.{bytes_eq}
+use Rattle.clap.specs.Walk.{Row, Rule, Text}
+use Rattle.clap.specs.Simple.{App, new_app, new_rule, on_top, with_rule, with_subcommand, subcommand_of}
+use Rattle.clap.specs.Faults.{fault_of}
+use Rattle.clap.specs.Kinds.{Kinds}
+use Rattle.clap.specs.declared.builder.action.ArgAction.TheVariants.{Set, SetTrue}
+use Rattle.clap.specs.declared.error.kind.ErrorKind.{ErrorKind}
+use Rattle.clap.specs.declared.error.kind.ErrorKind.TheVariants as kind
+use Rattle.rule_model.specs.declared.IpVersion.{IpVersion}
+use Rattle.rule_model.specs.declared.IpVersion.TheVariants.{V4, V6}
+use Rattle.option_words.specs.Options.{has_text, text_of}
+use Rattle.import_cli.specs.declared.asked.Asked.{Asked}
+use Rattle.import_cli.specs.declared.asked.Asked.TheVariants as asked
+use Rattle.import_cli.specs.declared.asked.Format.{Format}
+use Rattle.import_cli.specs.declared.asked.Format.TheVariants.{IpRoutes, IpMonitor}
+use Rattle.import_cli.specs.OwnTexts.{import_help}
+
+-- What words ask for: nothing, a text of the product, or an import of a format and a version of IP, lines left out or not.
+pub data ImportJob : Type 0 where
+  NoJob : ImportJob
+  Tells : (text : List ℕ) → ImportJob
+  Imports : (format : Format) (version : IpVersion) (leave_out : Bool) → ImportJob
+
+-- the format, a required word
+unfoldable pub format_position : Rule
+format_position = record (new_rule (codes "format")) { action = Some Set; required = true }
+
+-- --version, a word, by default 4
+unfoldable pub version_option : Rule
+version_option = record (new_rule (codes "version")) { long = Some (codes "version"); action = Some Set; defaults = codes "4" ∷ [] }
+
+-- --leave-out, a flag
+unfoldable pub leave_out_flag : Rule
+leave_out_flag = record (new_rule (codes "leave-out")) { long = Some (codes "leave-out"); action = Some SetTrue }
+
+-- a subcommand for imports
+unfoldable pub import_app : App
+import_app = with_rule (with_rule (with_rule (new_app (codes "import")) format_position) version_option) leave_out_flag
+
+-- tcam with a required subcommand; help is asked for by its flag alone
+unfoldable pub import_top : App
+import_top = on_top (λ top. record top { subcommand_required = true; disable_help_subcommand = true }) (new_app (codes "tcam"))
+
+-- and with this one alone
+unfoldable pub import_line : App
+import_line = with_subcommand import_top import_app.top
+
+-- the format of a name, and the version of a digit
+abbrev pub format_in : Text → Option Format
+format_in name =
+    if bytes_eq name (codes "ip-routes") then Some IpRoutes
+    else if bytes_eq name (codes "ip-monitor") then Some IpMonitor
+    else None
+
+abbrev pub version_in : Text → Option IpVersion
+version_in digit =
+    if bytes_eq digit (codes "4") then Some V4
+    else if bytes_eq digit (codes "6") then Some V6
+    else None
+
+-- an import, where the words name a format and a version
+abbrev pub imports_at : Option Format → Option IpVersion → Bool → ImportJob
+imports_at None version leave_out = NoJob
+imports_at (Some format) None leave_out = NoJob
+imports_at (Some format) (Some version) leave_out = Imports format version leave_out
+
+-- what its arguments ask for
+abbrev pub imports_by : List Row → ImportJob
+imports_by rows =
+    imports_at (format_in (text_of (codes "format") rows)) (version_in (text_of (codes "version") rows))
+    (has_text (codes "leave-out") (codes "true") rows)
+
+-- what a subcommand and its arguments do
+abbrev pub import_job_of_rows : Text → List Row → ImportJob
+import_job_of_rows name rows = if bytes_eq name (codes "import") then imports_by rows else NoJob
+
+abbrev pub import_job_of : Option (Text × List Row) → ImportJob
+import_job_of None = NoJob
+import_job_of (Some (name, rows)) = import_job_of_rows name rows
+
+-- what words ask for that clap doesn't take, by the kind of error that it answers
+abbrev pub import_job_of_fault : ErrorKind → ImportJob
+import_job_of_fault kind.DisplayHelp = Tells import_help
+import_job_of_fault k = NoJob
+
+-- the same by the kinds that it may answer, and what the subcommand does where there is none
+abbrev pub import_job_by_faults : Kinds → Option (Text × List Row) → ImportJob
+import_job_by_faults [] subcommand = import_job_of subcommand
+import_job_by_faults (k ∷ []) subcommand = import_job_of_fault k
+import_job_by_faults (k ∷ l ∷ ks) subcommand = NoJob
+
+-- what words ask for, the program's name first
+abbrev pub import_job : List Text → ImportJob
+import_job words = import_job_by_faults (fault_of import_line words) (subcommand_of import_line words)
+
+-- what an answer says that words ask for
+abbrev pub asked_by : Asked → ImportJob
+asked_by (asked.Import format version leave_out) = Imports format version leave_out
+asked_by asked.Help = Tells import_help

@@ -1,0 +1,4 @@
+pub mod Lists
+pub mod EventWords
+pub mod Answering
+pub mod Happened

@@ -1,0 +1,5 @@
+pub mod Events
+pub mod Ranks
+pub mod Standings
+pub mod Telling
+pub mod Laws
