@@ -24,7 +24,7 @@ use Rattle.explain.specs.declared.explainer.Wanted.{Wanted}
 -- a setting of a run that a script is explained for; where insertions aim and what is traced decides nothing here
 abbrev pub setting_for : Wanted → Setting
 setting_for wanted =
-    record { slots = wanted.slots; mode = wanted.mode; placement = Middle; family = wanted.family; trace = false; depth = 0; json = wanted.json }
+    record { slots = wanted.slots; mode = wanted.mode; placement = Middle; family = wanted.family; trace = false; depth = 0; json = wanted.json; names = false }
 
 -- the script that some bytes are to such a run
 abbrev pub script_for : Wanted → List ℕ → Script

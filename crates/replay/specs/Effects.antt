@@ -1,5 +1,5 @@
 -- What a run does to the outside, and the effects of one commit: its writes, its drain, and the lines of its probes.
-use Rattle.std.specs.Prelude.{ℕ, zero, suc, ◌+◌, ◌==◌, Bool, true, false, min, List, [], ◌∷◌, ◌++◌, if◌then◌else◌}
+use Rattle.std.specs.Prelude.{ℕ, zero, suc, ◌+◌, ◌==◌, Bool, true, false, min, Option, Some, None, List, [], ◌∷◌, ◌++◌, if◌then◌else◌}
 use Rattle.rule_model.specs.declared.Key.{Key}
 use Rattle.rule_store.specs.declared.Mode.{Mode}
 use Rattle.tcam_device.specs.declared.Write.{Write}
@@ -11,12 +11,14 @@ use Rattle.batch_order.specs.declared.Placement.{Placement}
 use Rattle.trace_file.specs.declared.TraceLine.TheVariants as line
 use Rattle.json_text.specs.JsonText.{json_line}
 use Rattle.report_lines.specs.declared.Family.{Family}
+use Rattle.report_lines.specs.declared.deed.Deed.{Deed}
+use Rattle.report_lines.specs.Named.{deed_of}
 use Rattle.replay.specs.JsonLines.{journal_line, shared_line}
-use Rattle.replay.specs.Text.{probe_line, write_line, drain_line}
+use Rattle.replay.specs.Text.{probe_line, write_line, named_line, drain_line}
 use Rattle.report_lines.specs.Text.{family_version}
 
 -- what the words of a command line ask for: the slots in use, the encoding of ranges, where insertions aim, the family,
--- a trace, after how many further writes a probe's word is searched, and a report in JSON
+-- a trace, after how many further writes a probe's word is searched, a report in JSON, and a trace by names
 pub record Setting : Type 0 where
   pub slots : ℕ
   pub mode : Mode
@@ -25,6 +27,7 @@ pub record Setting : Type 0 where
   pub trace : Bool
   pub depth : ℕ
   pub json : Bool
+  pub names : Bool
 
 -- What a run does to the outside: it writes or drains the device, or it prints a line.
 pub data Effect : Type 0 where
@@ -51,10 +54,20 @@ printed (Prints line ∷ effects) = line ++ printed effects
 abbrev pub traced : Bool → List ℕ → List Effect
 traced trace line = if trace then Prints line ∷ [] else []
 
+-- what a write does, by the state before it, where a trace is to tell that
+abbrev pub deed_told : Bool → State → Write → Option Deed
+deed_told true state write = Some (deed_of state.slots write)
+deed_told false state write = None
+
+-- the trace line of a write, by its number: what it does, where that is to be told, and else the write as the device has it
+abbrev pub trace_line : Family → ℕ → Option Deed → Write → List ℕ
+trace_line family number None write = write_line family number write
+trace_line family number (Some deed) write = named_line family number deed
+
 -- what is told of a write, by its number: its line of a report in JSON, and else its trace line, where a trace is wanted
-abbrev pub write_told : Bool → Bool → Family → ℕ → Write → List Effect
-write_told json trace family number write =
-    elim json [ true ↦ Prints (json_line (family_version family) [] (journal_line write)) ∷ [] | false ↦ traced trace (write_line family number write) ]
+abbrev pub write_told : Bool → Bool → Family → ℕ → Option Deed → Write → List Effect
+write_told json trace family number deed write =
+    elim json [ true ↦ Prints (json_line (family_version family) [] (journal_line write)) ∷ [] | false ↦ traced trace (trace_line family number deed write) ]
 
 -- likewise of a drain, after so many writes
 abbrev pub drain_told : Bool → Bool → ℕ → List Effect
@@ -93,7 +106,7 @@ waiting_after depth waiting (Drained ∷ actions) = waiting_after depth 0 action
 abbrev pub effects_of : Setting → List Key → ℕ → ℕ → State → List Action → List Effect
 effects_of setting probes number waiting state [] = []
 effects_of setting probes number waiting state (Written write ∷ actions) =
-    Acts (Written write) ∷ (write_told setting.json setting.trace setting.family (number + 1) write
+    Acts (Written write) ∷ (write_told setting.json setting.trace setting.family (number + 1) (deed_told setting.names state write) write
     ++ (searched_after setting probes (number + 1) waiting (apply state write)
     ++ effects_of setting probes (number + 1) (min (waiting + 1) setting.depth) (apply state write) actions))
 effects_of setting probes number waiting state (Drained ∷ actions) =

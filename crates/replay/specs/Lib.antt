@@ -1,6 +1,7 @@
 pub mod Text
 pub mod JsonLines
 pub mod Effects
+pub mod Naming
 pub mod Reports
 pub mod AskedRoutes
 pub mod Run

@@ -53,12 +53,13 @@ use Rattle.replay.specs.Carried.{IsAt, Carries, CutsAtLine, CutsAtWrite, CutsEff
 use Rattle.replay.specs.Outside.{Outside}
 
 -- what is told of each write: how rules are named, whether a trace is wanted, after how many further writes a probe's
--- word is searched, whether all is told in JSON, and the keys that are probed
+-- word is searched, whether all is told in JSON, whether a trace tells what a write does, and the keys that are probed
 pub record Watching : Type 0 where
   pub family : Family
   pub trace : Bool
   pub depth : ℕ
   pub json : Bool
+  pub names : Bool
   pub probes : List Key
 
 -- The manager, what is told of each write, the pending batch, what is asked for beside it, and what the report counts;
@@ -70,6 +71,7 @@ pub record Running : Type 0 where
   pub trace : Bool
   pub depth : ℕ
   pub json : Bool
+  pub names : Bool
   pub probes : List Key
   pub pending : List Change
   pub asked : Requested
@@ -83,7 +85,7 @@ pub record Running : Type 0 where
 
 -- what a run tells of each write
 abbrev pub watching : Running → Watching
-watching run = record { family = run.family; trace = run.trace; depth = run.depth; json = run.json; probes = run.probes }
+watching run = record { family = run.family; trace = run.trace; depth = run.depth; json = run.json; names = run.names; probes = run.probes }
 
 -- what the words of a command line asked for
 abbrev pub setting_of : Running → Setting
@@ -96,6 +98,7 @@ setting_of run =
       trace = run.trace;
       depth = run.depth;
       json = run.json;
+      names = run.names;
     }
 
 -- where the run stands, over a device of so many slots
@@ -114,14 +117,15 @@ progress_of device_slots run =
     }
 
 -- a run before its first act
-abbrev pub begun : ℕ → Mode → Placement → Family → Bool → ℕ → Bool → Running
-begun slots mode placement family trace depth json =
+abbrev pub begun : ℕ → Mode → Placement → Family → Bool → ℕ → Bool → Bool → Running
+begun slots mode placement family trace depth json names =
     record {
       manager = fresh slots mode placement;
       family = family;
       trace = trace;
       depth = depth;
       json = json;
+      names = names;
       probes = [];
       pending = [];
       asked = Nothing;
@@ -403,6 +407,7 @@ telling manager watch =
       trace = watch.trace;
       depth = watch.depth;
       json = watch.json;
+      names = watch.names;
     }
 
 -- it has come further by some actions

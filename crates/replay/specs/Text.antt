@@ -6,6 +6,8 @@ use Rattle.tcam_device.specs.declared.Write.{Write}
 use Rattle.batch_order.specs.declared.Done.{Done}
 use Rattle.report_lines.specs.Text.{line_text, answer_words, write_words, reason_words}
 use Rattle.report_lines.specs.declared.Family.{Family}
+use Rattle.report_lines.specs.declared.deed.Deed.{Deed}
+use Rattle.report_lines.specs.Named.{deed_words}
 pub use Rattle.report_lines.specs.Text.{fault_line, usage_line}
 
 -- what the set answers a packet
@@ -20,6 +22,10 @@ probe_line family write probe found =
 -- one write of a commit, by its number
 abbrev pub write_line : Family → ℕ → Write → List ℕ
 write_line family write made = line_text (codes "w" ∷ decimal write ∷ write_words family made)
+
+-- the same by names: what it does
+abbrev pub named_line : Family → ℕ → Deed → List ℕ
+named_line family write deed = line_text (codes "w" ∷ decimal write ∷ deed_words family deed)
 
 -- a drain, after so many writes of the commit
 abbrev pub drain_line : ℕ → List ℕ

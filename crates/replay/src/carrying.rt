@@ -130,7 +130,7 @@ impl Run {
     }
 
     // Makes and tells the writes up to the crash.
-    fn come_to_crash<K: Sink, D: Device>(
+    fn come_to_crash<K: Sink, D: ReadBack>(
         &mut self,
         after: u32,
         sink: &mut K,
@@ -222,7 +222,11 @@ impl Run {
 
     // Makes and tells the writes that are left of a commit that comes to its end by the manager that it has, counts it,
     // drops its batch, and writes its line.
-    fn complete<K: Sink, D: Device>(&mut self, sink: &mut K, device: &mut D) -> Result<(), RunFault>
+    fn complete<K: Sink, D: ReadBack>(
+        &mut self,
+        sink: &mut K,
+        device: &mut D,
+    ) -> Result<(), RunFault>
         requires slots { self.old.manager.slots ≤ (D.view device.old).slots }
         requires in_flight { AreLeft self.old (D.view device.old).flight }
         requires held { IsSome self.old.manager.held }

@@ -108,6 +108,11 @@
 //!   wants memory before its first commit prints nothing, and a run keeps nothing more for it than how many commits there
 //!   were. Trials and crashes have no line in a trace file, so no such run takes them, and the numbers of
 //!   its commands are within the limits of one (`IsToldIn`): else a line would tell of another rule than the one added.
+//! - **A trace by names is read off the device** (`deed_told` in `specs/Effects`): what a write does hangs on what the slots
+//!   hold before it, which the manager keeps to itself, and a device can be read back. So a write is looked at before it is
+//!   made, and a copy costs a read of every slot, where names are wanted alone. That a write does so is said by the state that
+//!   the effects of a commit lead through (`effects_of`), so a line tells of the write that was made. The price: all that makes
+//!   writes asks for a device that can be read, as a run does anyway for its crashes.
 //! - **A trace line takes any write, of any tag.** The tag's number may have more bits than a `u128`, so its last digit
 //!   is reckoned apart. A trace of IPv6 names the rule instead, and prints all eleven lanes: the tag of a route has 136
 //!   bits, which no one looks up by hand.
@@ -119,6 +124,7 @@ mod fate;
 mod joining;
 mod json_report;
 mod laws;
+mod naming;
 mod report;
 mod run;
 mod steps;

@@ -2,13 +2,13 @@
 //! What is said of a sink's bytes (`WritesLine`) holds of either count of them: of what it tells, and of what it
 //! accepted.
 ghost use Rattle.std.specs.Prelude.{◌≡◌, ◌<◌, [], ◌∷◌, ◌++◌, length};
-ghost use Rattle.replay.specs.Text.{packet_line, probe_line, write_line, drain_line, aborted_line, accepted_line, restarted_line, refused_line, end_line, yes_line, no_line};
+ghost use Rattle.replay.specs.Text.{packet_line, probe_line, write_line, named_line, drain_line, aborted_line, accepted_line, restarted_line, refused_line, end_line, yes_line, no_line};
 ghost use Rattle.report_lines.specs.Told.{verdict_told};
 ghost use Rattle.report_lines.specs.Outside.{WritesLine};
 
 use crate::Family;
 use batch_order::{Done, Rejection};
-use report_lines::{LINE_ROOM, ReportLine};
+use report_lines::{Deed, LINE_ROOM, ReportLine};
 use rule_model::Rank;
 use script_lines::{Failed, Sink};
 use tcam_device::Write;
@@ -138,6 +138,22 @@ pub fn write_trace<K: Sink>(
     ReportLine::new("w")
         .number(number)
         .device_write(family, write)
+        .write(sink)
+}
+
+/// Writes the trace line of a write of a commit by what it does, by its number, from 1. Takes no memory. Where the sink
+/// fails, a part of the line was taken, perhaps none or all of it.
+pub fn write_named<K: Sink>(
+    sink: &mut K,
+    family: Family,
+    number: u64,
+    deed: &Deed,
+) -> Result<(), Failed>
+    ensures { WritesLine K.taken K.accepted K.faults sink.old sink.new (named_line family number deed.now) result }
+{
+    ReportLine::new("w")
+        .number(number)
+        .deed(family, deed)
         .write(sink)
 }
 

@@ -58,9 +58,9 @@ impl Model for Run {
 
     ghost Value = { Running };
 
-    ghost view = { λ r. record { manager = r.manager; family = r.watch.family; trace = r.watch.trace; depth = r.watch.depth; json = r.watch.json; probes = r.watch.probes; pending = r.pending; asked = r.asked; commits = r.commits; writes = r.writes; refused = r.refused; told = r.count.told; waiting = r.count.waiting; fate = r.fate; broken = r.broken } };
+    ghost view = { λ r. record { manager = r.manager; family = r.watch.family; trace = r.watch.trace; depth = r.watch.depth; json = r.watch.json; names = r.watch.names; probes = r.watch.probes; pending = r.pending; asked = r.asked; commits = r.commits; writes = r.writes; refused = r.refused; told = r.count.told; waiting = r.count.waiting; fate = r.fate; broken = r.broken } };
 
-    ghost invariant = { λ r. IsRun (record { manager = r.manager; family = r.watch.family; trace = r.watch.trace; depth = r.watch.depth; json = r.watch.json; probes = r.watch.probes; pending = r.pending; asked = r.asked; commits = r.commits; writes = r.writes; refused = r.refused; told = r.count.told; waiting = r.count.waiting; fate = r.fate; broken = r.broken }) };
+    ghost invariant = { λ r. IsRun (record { manager = r.manager; family = r.watch.family; trace = r.watch.trace; depth = r.watch.depth; json = r.watch.json; names = r.watch.names; probes = r.watch.probes; pending = r.pending; asked = r.asked; commits = r.commits; writes = r.writes; refused = r.refused; told = r.count.told; waiting = r.count.waiting; fate = r.fate; broken = r.broken }) };
 }
 
 impl Run {
@@ -70,7 +70,8 @@ impl Run {
     /// the one that they were made behind, at most 15. In JSON the report has the lines of a trace file of the family's
     /// version of IP: its head before its first line; of each accepted commit its number, its commands, its writes and
     /// drains, and that it is done; the number of a refused one; and a last line. Neither a trace nor a probe or packet
-    /// adds to it. It fails only for want of memory.
+    /// adds to it. With names a trace tells what each write does, by what the slots hold before it, the rule by its name and
+    /// what its entry tests in the words of a script. It fails only for want of memory.
     pub fn new(
         alloc: Global,
         slots: u32,
@@ -80,16 +81,17 @@ impl Run {
         trace: bool,
         depth: u32,
         json: bool,
+        names: bool,
     ) -> Result<Run, AllocError>
         requires least { 1 ≤ slots }
         requires most { slots ≤ MOST_SLOTS }
         requires depth { depth ≤ 15 }
-        ensures { IfOk result (λ run. run ≡ begun slots mode placement family trace depth json) }
+        ensures { IfOk result (λ run. run ≡ begun slots mode placement family trace depth json names) }
     {
         Ok(Run {
             alloc,
             manager: Manager::new(alloc, slots, mode, placement)?,
-            watch: Watch::new(alloc, family, trace, depth, json)?,
+            watch: Watch::new(alloc, family, trace, depth, json, names)?,
             pending: Batch::new(alloc),
             asked: Requested::Nothing,
             commits: 0,

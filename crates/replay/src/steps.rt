@@ -21,8 +21,9 @@ use crate::fate::Fate;
 use crate::watch::{Count, Watch};
 use crate::{RunFault, TRIES};
 use batch_order::{Done, Manager, Step};
+use report_lines::Deed;
 use script_lines::{Failed, Sink};
-use tcam_device::{Device, DeviceFault, Writable, Write};
+use tcam_device::{Device, DeviceFault, ReadBack, Writable, Write};
 
 /// How a commit of a run ends.
 #[derive(Clone, Copy, Debug, PartialEq, Eq)]
@@ -37,7 +38,7 @@ pub(crate) enum Ended {
 /// behind those that were told before. Before its drain the words in flight are searched. `Sink` comes where a line
 /// can't be written, and `Device` where a write failed each time it was tried. The words of the last writes stay in
 /// flight.
-pub(crate) fn make_writes<K: Sink, D: Device>(
+pub(crate) fn make_writes<K: Sink, D: ReadBack>(
     manager: &mut Manager,
     watch: &Watch,
     count: &mut Count,
@@ -72,7 +73,7 @@ pub(crate) fn make_writes<K: Sink, D: Device>(
 
 /// Makes the writes of the commit under way, which has more than so many, until that many are told, and tells each as
 /// `make_writes` does. A drain that is due then isn't made.
-pub(crate) fn make_up_to<K: Sink, D: Device>(
+pub(crate) fn make_up_to<K: Sink, D: ReadBack>(
     manager: &mut Manager,
     watch: &Watch,
     count: &mut Count,
@@ -108,7 +109,7 @@ pub(crate) fn make_up_to<K: Sink, D: Device>(
 
 // Makes the writes that are left of the commit under way up to its end, or up to a crash behind so many of them where
 // it has more: None comes there.
-fn make_until<K: Sink, D: Device>(
+fn make_until<K: Sink, D: ReadBack>(
     manager: &mut Manager,
     watch: &Watch,
     count: &mut Count,
@@ -141,8 +142,9 @@ fn make_until<K: Sink, D: Device>(
             return Ok(None);
         }
         turn_round(manager, most, count.told);
+        let deed = watch.next_deed(manager, device);
         match step_tried(manager, device) {
-            Ok(Step::Wrote(write)) => match tell_write(watch, count, &write, sink, device) {
+            Ok(Step::Wrote(write)) => match tell_write(watch, count, &deed, &write, sink, device) {
                 Ok(()) => {}
                 Err(Failed) => return Err(RunFault::Sink),
             },
@@ -208,6 +210,7 @@ fn turn_round(manager: &mut Manager, most: Option<u32>, told: u64)
 fn tell_write<K: Sink, D: Device>(
     watch: &Watch,
     count: &mut Count,
+    deed: &Option<Deed>,
     write: &Write,
     sink: &mut K,
     device: &mut D,
@@ -218,7 +221,7 @@ fn tell_write<K: Sink, D: Device>(
     ensures told { count.new.told ≡ count.old.told + 1 }
     ensures waiting { count.new.waiting ≡ min (count.old.waiting + 1) watch.now.depth }
     ensures lines { WritesLines K.taken K.accepted K.faults sink.old sink.new
-        (write_told watch.now.json watch.now.trace watch.now.family (count.old.told + 1) write.now ++ found_after watch.now.family (probes_told watch.now.json watch.now.probes) watch.now.depth (count.old.told + 1) count.old.waiting (device_state (D.view device.old)) (D.view device.old).flight) result }
+        (write_told watch.now.json watch.now.trace watch.now.family (count.old.told + 1) deed.now write.now ++ found_after watch.now.family (probes_told watch.now.json watch.now.probes) watch.now.depth (count.old.told + 1) count.old.waiting (device_state (D.view device.old)) (D.view device.old).flight) result }
     ensures flight { OnOk result ((D.view device.new).flight ≡ flight_left (probes_told watch.now.json watch.now.probes) watch.now.depth count.old.waiting (device_state (D.view device.old)) (D.view device.old).flight) }
     ensures keys { AllByRecursion IsKey (probes_told watch.now.json watch.now.probes) }
     ensures others { IsSameButFlight (D.view device.old) (D.view device.new) }
@@ -228,7 +231,7 @@ fn tell_write<K: Sink, D: Device>(
     if waiting < watch.depth() {
         count.waiting += 1;
     }
-    watch.tell(count.told, waiting, write, sink, device)
+    watch.tell(count.told, waiting, deed, write, sink, device)
 }
 
 // Tells of a drain that was made: no word is in flight behind it.

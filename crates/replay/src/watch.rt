@@ -7,19 +7,25 @@ ghost use Rattle.std.specs.Prelude.{◌≡◌, ◌≢◌, ◌↔◌, ◌==◌, �
 ghost use Rattle.std.specs.List.{AllByRecursion};
 ghost use Rattle.rule_model.specs.Key.{IsKey};
 ghost use Rattle.tcam_device.specs.View.{device_state, IsSameButFlight};
-ghost use Rattle.replay.specs.Effects.{drain_told, probes_told, write_told};
+ghost use Rattle.batch_order.specs.Steps.{next_of};
+ghost use Rattle.report_lines.specs.Outside.{WritesLine};
+ghost use Rattle.replay.specs.Effects.{drain_told, probes_told, trace_line, write_told};
+ghost use Rattle.replay.specs.Naming.{next_deed};
 ghost use Rattle.replay.specs.InFlight.{AreOf, flight_left, found_after, found_all, found_lines, probe_words};
 ghost use Rattle.replay.specs.Outside.{WritesLines};
 ghost use Rattle.replay.specs.Script.{most_probes};
 
 use crate::Family;
 use crate::json_report::{journal_line, write_json, write_shared};
-use crate::report::{write_drain, write_probe, write_trace};
+use crate::naming::deed_of;
+use crate::report::{write_drain, write_named, write_probe, write_trace};
+use batch_order::Manager;
+use report_lines::Deed;
 use rule_model::{Key, key_fields};
 use script_lines::{Failed, Sink};
 use std::alloc::{AllocError, Global};
 use std::marker::Model;
-use tcam_device::{Device, Write};
+use tcam_device::{Device, ReadBack, Write};
 use trace_file::TraceLine;
 
 /// The most keys that are probed.
@@ -39,15 +45,16 @@ pub(crate) const NOTHING: Count = Count {
     waiting: 0,
 };
 
-/// What is told of each write: the write itself, where a trace is wanted, and what the device answers each probe, whose
-/// words are searched a depth of writes behind the one that they were made after. In JSON each write is told, and no
-/// probe.
+/// What is told of each write: the write itself, or what it does, where a trace is wanted, and what the device answers each
+/// probe, whose words are searched a depth of writes behind the one that they were made after. In JSON each write is told,
+/// and no probe.
 #[derive(Drop)]
 pub(crate) struct Watch {
     family: Family,
     trace: bool,
     depth: u32,
     json: bool,
+    names: bool,
     // There is room for the most probes from the start, so that a probe takes no memory.
     probes: Vec<Key>,
 }
@@ -58,7 +65,7 @@ impl Model for Watch {
 
     ghost Value = { Watching };
 
-    ghost view = { λ w. record { family = w.family; trace = w.trace; depth = w.depth; json = w.json; probes = w.probes.items } };
+    ghost view = { λ w. record { family = w.family; trace = w.trace; depth = w.depth; json = w.json; names = w.names; probes = w.probes.items } };
 
     ghost invariant = { λ w. (length w.probes.items ≤ 16) × (16 ≤ vec_capacity w.probes) × (w.depth ≤ 15) };
 }
@@ -71,15 +78,17 @@ impl Watch {
         trace: bool,
         depth: u32,
         json: bool,
+        names: bool,
     ) -> Result<Watch, AllocError>
         requires depth { depth ≤ 15 }
-        ensures { IfOk result (λ watch. watch ≡ record { family = family; trace = trace; depth = depth; json = json; probes = [] }) }
+        ensures { IfOk result (λ watch. watch ≡ record { family = family; trace = trace; depth = depth; json = json; names = names; probes = [] }) }
     {
         Ok(Watch {
             family,
             trace,
             depth,
             json,
+            names,
             probes: Vec::with_capacity(alloc, MOST_PROBES)?,
         })
     }
@@ -128,6 +137,20 @@ impl Watch {
         self.probes.push_reserved(key);
     }
 
+    /// What the next write of a manager's commit does, where a trace is to tell that and one is due.
+    pub(crate) fn next_deed<D: ReadBack>(&self, manager: &Manager, device: &D) -> Option<Deed>
+        requires { manager.now.slots ≤ (D.view device.now).slots }
+        ensures { result ≡ next_deed self.now.names (device_state (D.view device.now)) (next_of manager.now.held) }
+    {
+        if !self.names {
+            return None;
+        }
+        match manager.next_write() {
+            None => None,
+            Some(write) => Some(deed_of(&write, device)),
+        }
+    }
+
     /// Tells of a write that was made and counted, while the words of so many writes before it wait: the words of all
     /// probes follow them into flight, and with a depth of them waiting already the oldest are searched. Where the sink
     /// fails, the lines before the one that it didn't take whole are written. It takes no memory.
@@ -135,6 +158,7 @@ impl Watch {
         &self,
         number: u64,
         waiting: u32,
+        deed: &Option<Deed>,
         write: &Write,
         sink: &mut K,
         device: &mut D,
@@ -142,14 +166,14 @@ impl Watch {
         requires words { AreOf (probes_told self.now.json self.now.probes) waiting (D.view device.old).flight }
         requires few { waiting ≤ self.now.depth }
         ensures lines { WritesLines K.taken K.accepted K.faults sink.old sink.new
-            (write_told self.now.json self.now.trace self.now.family number write.now ++ found_after self.now.family (probes_told self.now.json self.now.probes) self.now.depth number waiting (device_state (D.view device.old)) (D.view device.old).flight) result }
+            (write_told self.now.json self.now.trace self.now.family number deed.now write.now ++ found_after self.now.family (probes_told self.now.json self.now.probes) self.now.depth number waiting (device_state (D.view device.old)) (D.view device.old).flight) result }
         ensures flight { OnOk result ((D.view device.new).flight ≡ flight_left (probes_told self.now.json self.now.probes) self.now.depth waiting (device_state (D.view device.old)) (D.view device.old).flight) }
         ensures keys { AllByRecursion IsKey (probes_told self.now.json self.now.probes) }
         ensures others { IsSameButFlight (D.view device.old) (D.view device.new) }
     {
         let depth = self.depth;
         self.translate(device);
-        self.tell_write(number, write, sink)?;
+        self.tell_write(number, deed, write, sink)?;
         if waiting == depth {
             self.search(number, sink, device)?;
         }
@@ -157,16 +181,38 @@ impl Watch {
     }
 
     // Writes the line of a write, in JSON or where a trace is wanted.
-    fn tell_write<K: Sink>(&self, number: u64, write: &Write, sink: &mut K) -> Result<(), Failed>
-        ensures { WritesLines K.taken K.accepted K.faults sink.old sink.new (write_told self.now.json self.now.trace self.now.family number write.now) result }
+    fn tell_write<K: Sink>(
+        &self,
+        number: u64,
+        deed: &Option<Deed>,
+        write: &Write,
+        sink: &mut K,
+    ) -> Result<(), Failed>
+        ensures { WritesLines K.taken K.accepted K.faults sink.old sink.new (write_told self.now.json self.now.trace self.now.family number deed.now write.now) result }
     {
         if self.json {
             return write_json(sink, self.family.version(), &journal_line(write));
         }
         if self.trace {
-            write_trace(sink, self.family, number, write)?;
+            self.trace_write(number, deed, write, sink)?;
         }
         Ok(())
+    }
+
+    // Writes the trace line of a write, by what it does where that is to be told.
+    fn trace_write<K: Sink>(
+        &self,
+        number: u64,
+        deed: &Option<Deed>,
+        write: &Write,
+        sink: &mut K,
+    ) -> Result<(), Failed>
+        ensures { WritesLine K.taken K.accepted K.faults sink.old sink.new (trace_line self.now.family number deed.now write.now) result }
+    {
+        match deed {
+            None => write_trace(sink, self.family, number, write),
+            Some(deed) => write_named(sink, self.family, number, deed),
+        }
     }
 
     /// Tells of a drain, behind so many writes, in JSON or where a trace is wanted.

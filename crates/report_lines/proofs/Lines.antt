@@ -1,6 +1,8 @@
 -- A line made word by word is the text of its words.
 use Rattle.std.proofs.Common.{◌≡◌, ℕ, ◌+◌, ◌*◌, ◌/◌, ◌%◌, ◌^◌, ◌<◌, List, [], ◌∷◌, ◌++◌, refl, sym, ap, ◌∙◌, append_assoc, decimal, arith}
+use Rattle.std.proofs.lemmas.Bool.{cond-false, ne_eqb}
 use Rattle.std.proofs.lemmas.Fmt.{decimal_digit, decimal_step_wide}
+use Rattle.report_lines.specs.Named.{prefix_text}
 use Rattle.report_lines.specs.Text.{line_text}
 use Rattle.report_lines.specs.Told.{with_words}
 
@@ -33,9 +35,17 @@ onto line a sign b = append_assoc (line ++ a) (sign ∷ []) b ∙ append_assoc l
 pub four_parts : (line a b c d : List ℕ) → ((((((line ++ a) ++ 46 ∷ []) ++ b) ++ 46 ∷ []) ++ c) ++ 46 ∷ []) ++ d ≡ line ++ (a ++ 46 ∷ b ++ 46 ∷ c ++ 46 ∷ d)
 four_parts line a b c d = rw (onto line a 46 b, onto line (a ++ 46 ∷ b) 46 c, onto line (a ++ 46 ∷ b ++ 46 ∷ c) 46 d) refl
 
+-- two texts with a sign between them, behind a line and a space
+pub two_parts : (line a : List ℕ) (sign : ℕ) (b : List ℕ) → (((line ++ 32 ∷ []) ++ a) ++ sign ∷ []) ++ b ≡ line ++ 32 ∷ (a ++ sign ∷ b)
+two_parts line a sign b = onto (line ++ 32 ∷ []) a sign b ∙ append_assoc line (32 ∷ []) (a ++ sign ∷ b)
+
 -- an address and a length behind a line and a space
 pub address_and_length : (line address len : List ℕ) → (((line ++ 32 ∷ []) ++ address) ++ 47 ∷ []) ++ len ≡ line ++ 32 ∷ (address ++ 47 ∷ len)
-address_and_length line address len = onto (line ++ 32 ∷ []) address 47 len ∙ append_assoc line (32 ∷ []) (address ++ 47 ∷ len)
+address_and_length line address len = two_parts line address 47 len
+
+-- a prefix whose mask has bits is told with its length
+pub prefix_some : (address : List ℕ) (ones : ℕ) → (ones ≡ 0 → ⊥) → prefix_text address ones ≡ address ++ 47 ∷ decimal ones
+prefix_some address ones other = cond-false _ _ _ (ne_eqb ones 0 other)
 
 -- five texts behind a line and a space
 pub five_parts : (line a b c d e : List ℕ) → (((((line ++ 32 ∷ []) ++ a) ++ b) ++ c) ++ d) ++ e ≡ line ++ 32 ∷ (a ++ (b ++ (c ++ (d ++ e))))

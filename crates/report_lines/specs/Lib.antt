@@ -1,3 +1,4 @@
 pub mod Text
 pub mod Told
 pub mod Outside
+pub mod Named

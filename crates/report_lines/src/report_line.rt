@@ -47,7 +47,7 @@ impl ReportLine {
     }
 
     // The line with a text more.
-    fn text(mut self, text: &str) -> ReportLine
+    pub(crate) fn text(mut self, text: &str) -> ReportLine
         requires { length self + length text.now ≤ LINE_ROOM }
         ensures text { result ≡ self ++ text.now }
         ensures len { length result ≡ length self + length text.now }
@@ -57,7 +57,7 @@ impl ReportLine {
     }
 
     // The line with a number more.
-    fn digits<I: Integer>(self, number: I) -> ReportLine
+    pub(crate) fn digits<I: Integer>(self, number: I) -> ReportLine
         requires { length self + I.MAX_STR_LEN ≤ LINE_ROOM }
         ensures text { result ≡ self ++ I.text number }
         ensures len { length result ≤ length self + I.MAX_STR_LEN }
@@ -109,7 +109,7 @@ impl ReportLine {
     }
 
     // The line with the prefix of an IPv4 route, behind a space: its length and address are the parts of its priority.
-    fn ipv4_prefix(self, priority: Rank) -> ReportLine
+    pub(crate) fn ipv4_prefix(self, priority: Rank) -> ReportLine
         requires { length self + 163 < LINE_ROOM }
         ensures text { result ≡ self ++ 32 ∷ ipv4_prefix_text priority }
         ensures len { length result ≤ length self + 164 }
@@ -121,7 +121,7 @@ impl ReportLine {
     }
 
     // The line with the prefix of an IPv6 route, behind a space.
-    fn ipv6_prefix(self, priority: Rank) -> ReportLine
+    pub(crate) fn ipv6_prefix(self, priority: Rank) -> ReportLine
         requires { length self + 43 < LINE_ROOM }
         ensures text { result ≡ self ++ 32 ∷ ipv6_prefix_text priority }
         ensures len { length result ≤ length self + 44 }
@@ -134,7 +134,7 @@ impl ReportLine {
     }
 
     // The line with the sequence number of a rule of an access list, behind a space.
-    fn sequence(self, priority: Rank) -> ReportLine
+    pub(crate) fn sequence(self, priority: Rank) -> ReportLine
         requires { length self + 20 < LINE_ROOM }
         ensures text { result ≡ self ++ 32 ∷ sequence_text priority }
         ensures len { length result ≤ length self + 21 }
@@ -143,7 +143,7 @@ impl ReportLine {
     }
 
     // The line with the name of a rule, behind a space.
-    fn name(self, family: Family, priority: Rank) -> ReportLine
+    pub(crate) fn name(self, family: Family, priority: Rank) -> ReportLine
         requires { length self + 163 < LINE_ROOM }
         ensures text { result ≡ self ++ 32 ∷ rule_name family priority }
         ensures len { length result ≤ length self + 164 }
@@ -156,7 +156,7 @@ impl ReportLine {
     }
 
     // The line with a result, behind a space: the number of a route, or the action of an access list.
-    fn result(self, family: Family, answer: u32) -> ReportLine
+    pub(crate) fn result(self, family: Family, answer: u32) -> ReportLine
         requires { length self + 20 < LINE_ROOM }
         ensures text { result ≡ self ++ 32 ∷ result_name family answer }
         ensures len { length result ≤ length self + 21 }
@@ -168,7 +168,7 @@ impl ReportLine {
     }
 
     // The line with the action of an access list, behind a space.
-    fn action(self, answer: u32) -> ReportLine
+    pub(crate) fn action(self, answer: u32) -> ReportLine
         requires { length self + 11 < LINE_ROOM }
         ensures text { result ≡ self ++ 32 ∷ action_text answer }
         ensures len { length result ≤ length self + 12 }
@@ -193,7 +193,7 @@ impl ReportLine {
     }
 
     // The line with the name of a port field, behind a space.
-    fn field(self, field: Field) -> ReportLine
+    pub(crate) fn field(self, field: Field) -> ReportLine
         requires { length self + 3 < LINE_ROOM }
         ensures text { result ≡ self ++ 32 ∷ field_text field }
         ensures len { length result ≡ length self + 4 }

@@ -20,7 +20,7 @@ blank-more slots device_slots within =
 
 -- it may be called
 pub begun_going : (slots : ℕ) (mode : Mode) (placement : Placement) (family : Family) (trace : Bool) (depth : ℕ) (device : DeviceView)
-    → slots ≤ device.slots → device.events ≡ [] → device.flight ≡ [] → CanGoOn (begun slots mode placement family trace depth false) device
+    → slots ≤ device.slots → device.events ≡ [] → device.flight ≡ [] → CanGoOn (begun slots mode placement family trace depth false false) device
 begun_going slots mode placement family trace depth device within nothing none = record {
   slots = within;
   whole = refl;

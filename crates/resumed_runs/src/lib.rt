@@ -31,7 +31,9 @@ pub fn begin(
     ensures going { IfOk result (λ run. (device : DeviceView) → slots ≤ device.slots → device.events ≡ [] → device.flight ≡ [] → CanGoOn run device) }
     ensures begins { IfOk result (λ run. run.commits ≡ 0) }
 {
-    Ok(Run::new(alloc, slots, mode, placement, family, trace, depth, false)?)
+    Ok(Run::new(
+        alloc, slots, mode, placement, family, trace, depth, false, false,
+    )?)
 }
 
 /// Carries out an act, as [`Run::apply`] does. Where memory is wanted behind a write, as it may be at a crash, no call may

@@ -17,7 +17,7 @@ blank-more slots device_slots within =
     ap (λ n. blanks ++ replicate (device_slots - n) None) (length-replicate slots None)
     ∙ replicate-append-replicate slots (device_slots - slots) None ∙ ap (λ n. replicate n None) all
 
-pub begins : (mode : Mode) (placement : Placement) (family : Family) (slots device_slots : ℕ) (trace : Bool) (depth : ℕ) (json : Bool) → slots ≤ device_slots → progress_of device_slots (begun slots mode placement family trace depth json) ≡ start device_slots
-begins mode placement family slots device_slots trace depth json within =
+pub begins : (mode : Mode) (placement : Placement) (family : Family) (slots device_slots : ℕ) (trace : Bool) (depth : ℕ) (json names : Bool) → slots ≤ device_slots → progress_of device_slots (begun slots mode placement family trace depth json names) ≡ start device_slots
+begins mode placement family slots device_slots trace depth json names within =
     let f : List (Option Entry) → Progress = λ s. record (start device_slots) { state = record (blank device_slots) { slots = s } } in
     ap f (blank-more slots device_slots within)

@@ -12,11 +12,11 @@ use Rattle.replay.specs.declared.Act.{Act}
 use Rattle.replay.specs.declared.Act.TheVariants.{Command, Ask, All, Probe, Packet, Commit, Trial, Crash}
 use Rattle.script_runs.specs.Script.{Whole, acts_of}
 use Rattle.replay.specs.Script.{Script, script_kind, script_of}
-use Rattle.replay.specs.Effects.{Setting, Effect, Acts, Prints, journal_of, traced, drain_told, write_told, searches_of, flushed, searched_after, waiting_after, effects_of}
+use Rattle.replay.specs.Effects.{Setting, Effect, Acts, Prints, journal_of, traced, trace_line, deed_told, drain_told, write_told, searches_of, flushed, searched_after, waiting_after, effects_of}
 use Rattle.replay.specs.Fates.{IsCrash}
 use Rattle.settled_changes.specs.declared.requested.Requested.TheVariants.{Nothing}
 use Rattle.replay.specs.Run.{Progress, start, Commits, Tries, Crashes, actions_back, actions_before, actions_for, actions_over, carried, IsCutBeforeCrash, IsCutInStep, IsCutStep, Judged, HasEffects, Runs, TakesMemory, pending_verdict, settled_at}
-use Rattle.replay.specs.Text.{aborted_line, drain_line, restarted_line, write_line}
+use Rattle.replay.specs.Text.{aborted_line, drain_line, restarted_line}
 use Rattle.replay.specs.Reports.{done_line, packet_told}
 use Rattle.script_runs.specs.declared.Status.{Status}
 use Rattle.script_runs.specs.declared.Status.TheVariants.{Done, Refused, Script as ScriptFault, ReadFault, WriteFault, DeviceFault, Memory, Usage}
@@ -184,8 +184,9 @@ quiet-actions setting number waiting state [] quiet words = refl
 quiet-actions setting number waiting state (Written write ∷ actions) quiet words =
     let next = apply state write in
     let later = effects_of setting [] (number + 1) (min (waiting + 1) setting.depth) next actions in
-    ap (λ json. Acts (Written write) ∷ (write_told json setting.trace setting.family (number + 1) write ++ (searched_after setting [] (number + 1) waiting next ++ later))) words
-    ∙ ap (λ trace. Acts (Written write) ∷ (traced trace (write_line setting.family (number + 1) write) ++ (searched_after setting [] (number + 1) waiting next ++ later))) quiet
+    let deed = deed_told setting.names state write in
+    ap (λ json. Acts (Written write) ∷ (write_told json setting.trace setting.family (number + 1) deed write ++ (searched_after setting [] (number + 1) waiting next ++ later))) words
+    ∙ ap (λ trace. Acts (Written write) ∷ (traced trace (trace_line setting.family (number + 1) deed write) ++ (searched_after setting [] (number + 1) waiting next ++ later))) quiet
     ∙ ap (λ found. Acts (Written write) ∷ (found ++ later)) (quiet-searches setting (number + 1) waiting next)
     ∙ ap (λ effects. Acts (Written write) ∷ effects) (quiet-actions setting (number + 1) (min (waiting + 1) setting.depth) next actions quiet words)
 quiet-actions setting number waiting state (Drained ∷ actions) quiet words =

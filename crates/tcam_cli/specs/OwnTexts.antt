@@ -20,6 +20,7 @@ help_text = codes "tcam: the table manager of a ternary content-addressable memo
     ++ 10 ∷ codes "    tcam verify < FILE             a check of a trace of device writes"
     ++ 10 ∷ codes "    tcam draw [OPTIONS] < TRACE    a picture of a trace's commits, as an SVG"
     ++ 10 ∷ codes "    tcam import FORMAT [OPTIONS]   a script of what another program prints"
+    ++ 10 ∷ codes "    tcam judge [OPTIONS] < TRACE   which write of any driver's trace leaks"
     ++ 10 ∷ codes "    tcam route --help              the commands of a script of routes"
     ++ 10 ∷ codes "    tcam acl --help                the commands of a script of an access list"
     ++ 10 ∷ codes "    tcam route6 --help             those of a script of IPv6 routes"
@@ -29,6 +30,7 @@ help_text = codes "tcam: the table manager of a ternary content-addressable memo
     ++ 10 ∷ codes "    tcam verify --help             the lines of a trace, and what is told of it"
     ++ 10 ∷ codes "    tcam draw --help               what a picture shows, and of which commits"
     ++ 10 ∷ codes "    tcam import --help             the formats that are read, and their options"
+    ++ 10 ∷ codes "    tcam judge --help              the lines of such a trace, and what is told"
     ++ 10 ∷ codes "    tcam --help                    this text"
     ++ 10 ∷ codes "    tcam --version                 name and version"
     ++ 10 ∷ 10 ∷ codes "Options:"
@@ -45,6 +47,8 @@ help_text = codes "tcam: the table manager of a ternary content-addressable memo
     ++ 10 ∷ codes "                     rank, but what is lower than all goes right behind what it"
     ++ 10 ∷ codes "                     must stand behind, and what is higher right before it"
     ++ 10 ∷ codes "    --trace          a line for each device write and drain; not for gen"
+    ++ 10 ∷ codes "    --names          with --trace, of scripts of one table: what each write does"
+    ++ 10 ∷ codes "                     and what an entry tests, by the names and words of scripts"
     ++ 10 ∷ codes "    --json           of scripts of one table, a report in JSON: a value a line"
     ++ 10 ∷ codes "                     for each command, device write and drain of a commit"
     ++ 10 ∷ codes "    --depth K        of these, after how many further writes the words of the"
@@ -115,6 +119,9 @@ placement_line = codes "    --placement P    where a new entry aims: middle, the
 unfoldable pub trace_option : List ℕ
 trace_option = codes "    --trace          a line for each device write and drain"
 
+unfoldable pub names_option : List ℕ
+names_option = codes "    --names          with --trace, what each write does, by the names of rules"
+
 unfoldable pub depth_line : List ℕ
 depth_line = codes "    --depth K        probes are searched K writes later, 0 to 15, by default 0"
 
@@ -130,7 +137,7 @@ list_options = slots_line
 -- the help of a script of routes, by its subcommand: its commands, their words, options and an example
 unfoldable pub route_help_of : List ℕ → List ℕ → Named → List ℕ
 route_help_of command rules named = codes "tcam " ++ command ++ codes ": carries out a script of " ++ rules ++ codes ", and writes a report."
-    ++ 10 ∷ 10 ∷ codes "    tcam " ++ command ++ codes " [--slots N] [--placement P] [--trace] [--depth K] [--json] < FILE"
+    ++ 10 ∷ 10 ∷ codes "    tcam " ++ command ++ codes " [--slots N] [--placement P] [--trace] [--names] [--depth K] [--json] < FILE"
     ++ 10 ∷ 10 ∷ codes "Commands of a script, one a line:"
     ++ 10 ∷ codes "    route add PREFIX RESULT    a new route: packets to the prefix get RESULT,"
     ++ 10 ∷ codes "                               unless a route of a longer prefix holds"
@@ -149,6 +156,7 @@ route_help_of command rules named = codes "tcam " ++ command ++ codes ": carries
     ++ 10 ∷ slots_line
     ++ 10 ∷ placement_line
     ++ 10 ∷ trace_option
+    ++ 10 ∷ names_option
     ++ 10 ∷ depth_line
     ++ 10 ∷ json_option
     ++ 10 ∷ 10 ∷ codes "Example of a script, whose packet gets the answer " ++ named.prefix ++ codes " 7:"
@@ -167,7 +175,7 @@ route6_help = route_help_of (codes "route6") (codes "IPv6 routes") ipv6_named
 -- the help of a script of an access list, likewise
 unfoldable pub acl_help_of : List ℕ → List ℕ → Named → List ℕ
 acl_help_of command rules named = codes "tcam " ++ command ++ codes ": carries out a script of " ++ rules ++ codes ", and writes a report."
-    ++ 10 ∷ 10 ∷ codes "    tcam " ++ command ++ codes " [--slots N] [--ranges R] [--placement P] [--trace] [--depth K] [--json] < FILE"
+    ++ 10 ∷ 10 ∷ codes "    tcam " ++ command ++ codes " [--slots N] [--ranges R] [--placement P] [--trace] [--names] [--depth K] [--json] < FILE"
     ++ 10 ∷ 10 ∷ codes "Commands of a script, one a line, with the source's side and ports first:"
     ++ 10 ∷ codes "    acl add SEQ ACTION SIDE SIDE PROTOSPEC PORTSPEC PORTSPEC"
     ++ 10 ∷ codes "                               a new rule: packets that meet its conditions"
@@ -188,6 +196,7 @@ acl_help_of command rules named = codes "tcam " ++ command ++ codes ": carries o
     ++ 10 ∷ 10 ∷ codes "Options, of which tcam --help says more:"
     ++ 10 ∷ list_options
     ++ 10 ∷ trace_option
+    ++ 10 ∷ names_option
     ++ 10 ∷ depth_line
     ++ 10 ∷ json_option
     ++ 10 ∷ 10 ∷ codes "Example of a script, whose packet gets the answer 10 permit:"

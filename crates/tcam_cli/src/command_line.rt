@@ -3,7 +3,7 @@
 ghost use Rattle.std.specs.Prelude.{◌≡◌, codes, Err, IfOk, IsErrOf, IfSome, IsNone, None, false, true, map, string_bytes};
 ghost use Rattle.clap.specs.Words.{app_of, rule_of, rows_of, found_of, subcommand_rows_of, kind_of};
 ghost use Rattle.clap.specs.declared.builder.command.Command.TheViews.{out-Command};
-ghost use Rattle.tcam_cli.specs.CommandLine.{job_of, job_of_fault, mode_wanted, topic_in, topic_named, verify_app, acl_app, depth_option, gen_app, json_flag, route_app, tcam_app};
+ghost use Rattle.tcam_cli.specs.CommandLine.{job_of, job_of_fault, mode_wanted, topic_in, topic_named, verify_app, acl_app, depth_option, gen_app, json_flag, names_flag, route_app, tcam_app};
 ghost use Rattle.tcam_cli.specs.Asked.{IsInRange, asked_by, tested_job, tested_made, tested_script};
 ghost use Rattle.tcam_cli.specs.Headline.{NoJob};
 
@@ -23,7 +23,8 @@ use std::alloc::{AllocError, Global};
 pub enum Asked {
     /// A script of this family from the source, with so many slots in use, 1 to 4,096, where port ranges are tested as
     /// the mode says and each insertion aims as the placement says, with a trace or without, with the words of probes
-    /// searched after so many further writes, at most 15, and with a report in JSON or without.
+    /// searched after so many further writes, at most 15, with a report in JSON or without, and with a trace by names or by
+    /// the words of the device.
     Script {
         family: Family,
         slots: u32,
@@ -32,6 +33,7 @@ pub enum Asked {
         trace: bool,
         depth: u32,
         json: bool,
+        names: bool,
     },
     /// Commands of an access list that are made from a seed up to 2,147,483,647, 1 to 64 batches of 1 to 256 rules
     /// each, over so many slots, in this mode and by this placement, and without a trace. No source is read.
@@ -73,6 +75,16 @@ fn json_arg<'a>(alloc: Global) -> Arg<'a>
         .action(ArgAction::SetTrue)
 }
 
+/// Whether a trace is by names.
+fn names_arg<'a>(alloc: Global) -> Arg<'a>
+    ensures rule { rule_of result ≡ names_flag }
+    ensures global { result.global ≡ false }
+{
+    Arg::new(alloc, "names")
+        .long("names")
+        .action(ArgAction::SetTrue)
+}
+
 /// A subcommand for route scripts, by its name.
 fn route_command<'a>(alloc: Global, name: &'a str) -> Result<Command<'a>, AllocError>
     ensures app { IfOk result (λ c. app_of c ≡ route_app name.entry.now) }
@@ -84,7 +96,8 @@ fn route_command<'a>(alloc: Global, name: &'a str) -> Result<Command<'a>, AllocE
             .arg(placement_arg(alloc))?
             .arg(trace_arg(alloc))?
             .arg(depth_arg(alloc))?
-            .arg(json_arg(alloc))?,
+            .arg(json_arg(alloc))?
+            .arg(names_arg(alloc))?,
     )
 }
 
@@ -100,7 +113,8 @@ fn acl_command<'a>(alloc: Global, name: &'a str) -> Result<Command<'a>, AllocErr
             .arg(placement_arg(alloc))?
             .arg(trace_arg(alloc))?
             .arg(depth_arg(alloc))?
-            .arg(json_arg(alloc))?,
+            .arg(json_arg(alloc))?
+            .arg(names_arg(alloc))?,
     )
 }
 
@@ -198,6 +212,7 @@ fn job_of_script(family: Family, found: &ArgMatches) -> Option<Asked>
         trace: text_of(found, "trace") == "true",
         depth: number_of(text_of(found, "depth"), 0, 15)?,
         json: text_of(found, "json") == "true",
+        names: text_of(found, "names") == "true",
     })
 }
 

@@ -38,6 +38,7 @@ output. Or it checks a trace of writes, its own or another driver's.
     tcam verify < FILE             a check of a trace of device writes
     tcam draw [OPTIONS] < TRACE    a picture of a trace's commits, as an SVG
     tcam import FORMAT [OPTIONS]   a script of what another program prints
+    tcam judge [OPTIONS] < TRACE   which write of any driver's trace leaks
     tcam route --help              the commands of a script of routes
     tcam acl --help                the commands of a script of an access list
     tcam route6 --help             those of a script of IPv6 routes
@@ -47,6 +48,7 @@ output. Or it checks a trace of writes, its own or another driver's.
     tcam verify --help             the lines of a trace, and what is told of it
     tcam draw --help               what a picture shows, and of which commits
     tcam import --help             the formats that are read, and their options
+    tcam judge --help              the lines of such a trace, and what is told
     tcam --help                    this text
     tcam --version                 name and version
 
@@ -64,6 +66,8 @@ Options:
                      rank, but what is lower than all goes right behind what it
                      must stand behind, and what is higher right before it
     --trace          a line for each device write and drain; not for gen
+    --names          with --trace, of scripts of one table: what each write does
+                     and what an entry tests, by the names and words of scripts
     --json           of scripts of one table, a report in JSON: a value a line
                      for each command, device write and drain of a commit
     --depth K        of these, after how many further writes the words of the
@@ -92,7 +96,7 @@ The manual is docs/SCRIPT.md.
 const ROUTE_HELP: &str = "\
 tcam route: carries out a script of routes, and writes a report.
 
-    tcam route [--slots N] [--placement P] [--trace] [--depth K] [--json] < FILE
+    tcam route [--slots N] [--placement P] [--trace] [--names] [--depth K] [--json] < FILE
 
 Commands of a script, one a line:
     route add PREFIX RESULT    a new route: packets to the prefix get RESULT,
@@ -120,6 +124,7 @@ Options, of which tcam --help says more:
     --slots N        N slots in use, 1 to 4096, by default 4096
     --placement P    where a new entry aims: middle, the default, rank or ends
     --trace          a line for each device write and drain
+    --names          with --trace, what each write does, by the names of rules
     --depth K        probes are searched K writes later, 0 to 15, by default 0
     --json           a report in JSON, a value a line; no trial, no crash
 
@@ -135,7 +140,7 @@ The manual is docs/SCRIPT.md.
 const ACL_HELP: &str = "\
 tcam acl: carries out a script of an access list, and writes a report.
 
-    tcam acl [--slots N] [--ranges R] [--placement P] [--trace] [--depth K] [--json] < FILE
+    tcam acl [--slots N] [--ranges R] [--placement P] [--trace] [--names] [--depth K] [--json] < FILE
 
 Commands of a script, one a line, with the source's side and ports first:
     acl add SEQ ACTION SIDE SIDE PROTOSPEC PORTSPEC PORTSPEC
@@ -167,6 +172,7 @@ Options, of which tcam --help says more:
     --ranges R       how port ranges are tested: cover, the default, or bits
     --placement P    where a new entry aims: middle, the default, rank or ends
     --trace          a line for each device write and drain
+    --names          with --trace, what each write does, by the names of rules
     --depth K        probes are searched K writes later, 0 to 15, by default 0
     --json           a report in JSON, a value a line; no trial, no crash
 
@@ -182,7 +188,7 @@ The manual is docs/SCRIPT.md.
 const ROUTE6_HELP: &str = "\
 tcam route6: carries out a script of IPv6 routes, and writes a report.
 
-    tcam route6 [--slots N] [--placement P] [--trace] [--depth K] [--json] < FILE
+    tcam route6 [--slots N] [--placement P] [--trace] [--names] [--depth K] [--json] < FILE
 
 Commands of a script, one a line:
     route add PREFIX RESULT    a new route: packets to the prefix get RESULT,
@@ -210,6 +216,7 @@ Options, of which tcam --help says more:
     --slots N        N slots in use, 1 to 4096, by default 4096
     --placement P    where a new entry aims: middle, the default, rank or ends
     --trace          a line for each device write and drain
+    --names          with --trace, what each write does, by the names of rules
     --depth K        probes are searched K writes later, 0 to 15, by default 0
     --json           a report in JSON, a value a line; no trial, no crash
 
@@ -225,7 +232,7 @@ The manual is docs/SCRIPT.md.
 const ACL6_HELP: &str = "\
 tcam acl6: carries out a script of an IPv6 access list, and writes a report.
 
-    tcam acl6 [--slots N] [--ranges R] [--placement P] [--trace] [--depth K] [--json] < FILE
+    tcam acl6 [--slots N] [--ranges R] [--placement P] [--trace] [--names] [--depth K] [--json] < FILE
 
 Commands of a script, one a line, with the source's side and ports first:
     acl add SEQ ACTION SIDE SIDE PROTOSPEC PORTSPEC PORTSPEC
@@ -257,6 +264,7 @@ Options, of which tcam --help says more:
     --ranges R       how port ranges are tested: cover, the default, or bits
     --placement P    where a new entry aims: middle, the default, rank or ends
     --trace          a line for each device write and drain
+    --names          with --trace, what each write does, by the names of rules
     --depth K        probes are searched K writes later, 0 to 15, by default 0
     --json           a report in JSON, a value a line; no trial, no crash
 

@@ -34,6 +34,7 @@ use crate::traces::run_verify;
 use acl_reader::{AclCommand, read_acl};
 use line_words::{CommonCommand, WordFault};
 use option_words::WordsFault;
+use replay::Family::Acl;
 use replay::{Act, ActFault, Family, Run, RunFault, write_text};
 use route_reader::{RouteCommand, read_route, route_of, route_rank};
 use rule_gen::{Made, Maker};
@@ -54,7 +55,6 @@ use tcam_device::ReadBack;
 /// and after the last write of a commit that finishes that of the one after it; a refused commit writes nothing. A
 /// trial with more writes than it may make makes so many of them and then undoes each, the last one first: it ends with
 /// the set, the live ranges and the device as they were before it. A trial with no more is a commit.
-///
 /// A crash with more writes than it may make makes so many of them. Then its manager is dropped, and another one goes
 /// on with the commit by what the device shows: the same is promised of the writes of both, one after the other. A
 /// crash with no more is a commit.
@@ -111,8 +111,11 @@ pub fn run<S: Source, K: Sink, D: ReadBack>(
                 trace,
                 depth,
                 json,
+                names,
             },
-        ) => match Run::new(alloc, slots, mode, placement, family, trace, depth, json) {
+        ) => match Run::new(
+            alloc, slots, mode, placement, family, trace, depth, json, names,
+        ) {
             Ok(mut run) => run_script(&mut run, source, sink, device),
             Err(_) => Status::Memory,
         },
@@ -125,7 +128,7 @@ pub fn run<S: Source, K: Sink, D: ReadBack>(
                 rules,
                 batches,
             },
-        ) => match Run::new(alloc, slots, mode, placement, Family::Acl, false, 0, false) {
+        ) => match Run::new(alloc, slots, mode, placement, Acl, false, 0, false, false) {
             Ok(mut run) => run_made(&mut run, seed, rules, batches, sink, device),
             Err(_) => Status::Memory,
         },

@@ -37,8 +37,8 @@ use Rattle.std.proofs.lemmas.List.{length-replicate}
 use Rattle.slot_order.specs.Order.{most_slots}
 
 -- a run before its first act
-pub begun-run : (slots : ℕ) (mode : Mode) (placement : Placement) (family : Family) (trace : Bool) (depth : ℕ) (json : Bool) → 1 ≤ slots → slots ≤ most_slots → IsRun (begun slots mode placement family trace depth json)
-begun-run slots mode placement family trace depth json least most = record {
+pub begun-run : (slots : ℕ) (mode : Mode) (placement : Placement) (family : Family) (trace : Bool) (depth : ℕ) (json names : Bool) → 1 ≤ slots → slots ≤ most_slots → IsRun (begun slots mode placement family trace depth json names)
+begun-run slots mode placement family trace depth json names least most = record {
   changes = λ version route. tt;
   asks = λ version route. tt;
   routes = λ version route. tt;

@@ -16,7 +16,7 @@ use Rattle.batch_order.specs.Managed.{live_now}
 use Rattle.batch_order.specs.Steps.{next_of}
 use Rattle.replay.specs.declared.Act.{Act}
 use Rattle.replay.specs.declared.watch.Count.{Count}
-use Rattle.replay.specs.Effects.{Setting, Effect, Acts, Prints, events_in, printed, probes_told, write_told, searched_after, flushed, waiting_after, effects_of}
+use Rattle.replay.specs.Effects.{Setting, Effect, Acts, Prints, events_in, printed, probes_told, deed_told, write_told, searched_after, flushed, waiting_after, effects_of}
 use Rattle.replay.specs.Run.{Progress, HasEffects, IsCutStep, carried, carried_so_far}
 use Rattle.report_lines.specs.Outside.{AppendsPart}
 use Rattle.replay.specs.Outside.{CutsLines, outside}
@@ -111,7 +111,7 @@ module _ (slots : ℕ) (before : Progress) (front : List Effect) (run : Running)
         let ahead = state_after (on_device slots run.manager.state) (writes_in made) in
         let number = run.told + length (writes_in made) in
         let waiting = waiting_after run.depth run.waiting made in
-        let behind = write_told run.json run.trace run.family (number + 1) due
+        let behind = write_told run.json run.trace run.family (number + 1) (deed_told run.names ahead due) due
         ++ (searched_after (setting_of run) (probes_told run.json run.probes) (number + 1) waiting (apply ahead due)
         ++ effects_of (setting_of run) (probes_told run.json run.probes) (number + 1) (min (waiting + 1) run.depth) (apply ahead due) rest) in
         let part : later course.left ≡ later made ++ Acts (Written due) ∷ behind =

@@ -11,8 +11,9 @@ use Rattle.tcam_device.specs.Flight.{writes_in}
 use Rattle.tcam_device.specs.State.{State, apply, state_after}
 use Rattle.commit_writes.proofs.WritesIn.{writes_in-append}
 use Rattle.report_lines.specs.declared.Family.{Family}
-use Rattle.replay.specs.Effects.{Setting, Effect, Acts, Prints, events_in, journal_of, printed, traced, write_told, drain_told, searches_of, flushed, searched_after, waiting_after, effects_of}
-use Rattle.replay.specs.Text.{write_line, drain_line}
+use Rattle.replay.specs.Effects.{Setting, Effect, Acts, Prints, events_in, journal_of, printed, traced, trace_line, deed_told, write_told, drain_told, searches_of, flushed, searched_after, waiting_after, effects_of}
+use Rattle.report_lines.specs.declared.deed.Deed.{Deed}
+use Rattle.replay.specs.Text.{drain_line}
 use Rattle.replay.specs.Carried.{Does}
 
 -- some actions, and others behind them
@@ -40,9 +41,9 @@ events-traced : (trace : Bool) (line : List ℕ) → events_in (traced trace lin
 events-traced true line = refl
 events-traced false line = refl
 
-pub events-write_told : (json trace : Bool) (family : Family) (number : ℕ) (write : Write) → events_in (write_told json trace family number write) ≡ []
-events-write_told true trace family number write = refl
-events-write_told false trace family number write = events-traced trace (write_line family number write)
+pub events-write_told : (json trace : Bool) (family : Family) (number : ℕ) (deed : Option Deed) (write : Write) → events_in (write_told json trace family number deed write) ≡ []
+events-write_told true trace family number deed write = refl
+events-write_told false trace family number deed write = events-traced trace (trace_line family number deed write)
 
 pub events-drain_told : (json trace : Bool) (number : ℕ) → events_in (drain_told json trace number) ≡ []
 events-drain_told true trace number = refl
@@ -71,8 +72,10 @@ events-actions setting probes number waiting state [] = refl
 events-actions setting probes number waiting state (Written write ∷ actions) =
     let next = apply state write in
     let later = effects_of setting probes (number + 1) (min (waiting + 1) setting.depth) next actions in
+    let deed = deed_told setting.names state write in
     ap (λ made. Written write ∷ made)
-    (none-behind (write_told setting.json setting.trace setting.family (number + 1) write) (searched_after setting probes (number + 1) waiting next ++ later) (events-write_told setting.json setting.trace setting.family (number + 1) write)
+    (none-behind (write_told setting.json setting.trace setting.family (number + 1) deed write) (searched_after setting probes (number + 1) waiting next ++ later)
+    (events-write_told setting.json setting.trace setting.family (number + 1) deed write)
     ∙ none-behind (searched_after setting probes (number + 1) waiting next) later (events-searched setting probes (number + 1) waiting next)
     ∙ events-actions setting probes (number + 1) (min (waiting + 1) setting.depth) next actions)
 events-actions setting probes number waiting state (Drained ∷ actions) =
@@ -102,7 +105,7 @@ effects-append setting probes number waiting state [] more = let same : number �
 effects-append setting probes number waiting state (Written write ∷ made) more =
     let next = apply state write in
     let later = min (waiting + 1) setting.depth in
-    let here = write_told setting.json setting.trace setting.family (number + 1) write in
+    let here = write_told setting.json setting.trace setting.family (number + 1) (deed_told setting.names state write) write in
     let found = searched_after setting probes (number + 1) waiting next in
     let front = effects_of setting probes (number + 1) later next made in
     let back : ℕ → List Effect = λ n. effects_of setting probes n (waiting_after setting.depth later made) (state_after next (writes_in made)) more in

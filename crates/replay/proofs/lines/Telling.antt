@@ -3,9 +3,7 @@ use Rattle.std.proofs.Common.{◌≡◌, ℕ, List, [], ◌∷◌, ◌++◌, Opt
 use Rattle.std.specs.Io.KnownBytes.{Appends}
 use Rattle.std.proofs.KnownBytes.{Appends-trans}
 use Rattle.script_lines.specs.Given.{counted}
-use Rattle.tcam_device.specs.declared.Write.{Write}
 use Rattle.report_lines.specs.declared.Family.{Family}
-use Rattle.replay.specs.Text.{write_line}
 use Rattle.replay.specs.Effects.{Effect, Prints, printed}
 use Rattle.report_lines.specs.Outside.{WritesLine}
 use Rattle.replay.specs.Outside.{WritesLines, CutsLines}
@@ -38,11 +36,11 @@ line-alone taken accepted faults old new line (Err fault) writes = record {
   cause = writes.cause;
 }
 
--- a write's line names its rule by the family that is told
-pub trace-named : {S T E : Type 0} (taken : S → Option (List ℕ)) (accepted : S → List ℕ) (faults : S → ℕ) (old new : S) (result : Result T E) (family told : Family) (number : ℕ) (write : Write)
-    → told ≡ family → WritesLine taken accepted faults old new (write_line told number write) result → WritesLine taken accepted faults old new (write_line family number write) result
-trace-named taken accepted faults old new result family told number write same line =
-    subst (λ (named : Family). WritesLine taken accepted faults old new (write_line named number write) result) same line
+-- a line names its rule by the family that is told
+pub line-named : {S T E : Type 0} (taken : S → Option (List ℕ)) (accepted : S → List ℕ) (faults : S → ℕ) (old new : S) (result : Result T E) (line : Family → List ℕ) (family told : Family)
+    → told ≡ family → WritesLine taken accepted faults old new (line told) result → WritesLine taken accepted faults old new (line family) result
+line-named taken accepted faults old new result line family told same writes =
+    subst (λ (named : Family). WritesLine taken accepted faults old new (line named) result) same writes
 
 -- some lines are told, and of those behind them one is cut
 pub cuts-within : (all front lines back : List Effect) (old mid new : Option (List ℕ)) → all ≡ front ++ (lines ++ back) → Appends old mid (printed front) → CutsLines lines mid new → CutsLines all old new

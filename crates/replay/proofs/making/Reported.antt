@@ -12,7 +12,7 @@ use Rattle.tcam_device.proofs.Spans.{state_after-append}
 use Rattle.commit_writes.proofs.WritesIn.{writes_in-append}
 use Rattle.batch_order.specs.Managed.{Managed}
 use Rattle.replay.specs.declared.watch.Count.{Count}
-use Rattle.replay.specs.Effects.{Effect, Acts, Prints, events_in, printed, write_told, drain_told, probes_told, flushed, searched_after, waiting_after, effects_of}
+use Rattle.replay.specs.Effects.{Effect, Acts, Prints, events_in, printed, deed_told, write_told, drain_told, probes_told, flushed, searched_after, waiting_after, effects_of}
 use Rattle.replay.specs.Outside.{CutsLines}
 use Rattle.replay.specs.Carried.{CutsEffects}
 use Rattle.replay.specs.Running.{Watching, HasCome, TellsActions, effects_on, telling}
@@ -78,20 +78,21 @@ module _ (begun : Managed) (watch : Watching) (slots : ℕ) (count : Count) (eve
   -- the lines of a write
   abbrev pub lines_of : Write → List Effect
   lines_of write =
-      write_told watch.json watch.trace watch.family (now.told + 1) write ++ searched_after (telling begun watch) (probes_told watch.json watch.probes) (now.told + 1) now.waiting (apply state_now write)
+      write_told watch.json watch.trace watch.family (now.told + 1) (deed_told watch.names state_now write) write ++ searched_after (telling begun watch) (probes_told watch.json watch.probes) (now.told + 1) now.waiting (apply state_now write)
 
   lines-none : (write : Write) → events_in (lines_of write) ≡ []
   lines-none write =
       let found = searched_after (telling begun watch) (probes_told watch.json watch.probes) (now.told + 1) now.waiting (apply state_now write) in
-      events-append (write_told watch.json watch.trace watch.family (now.told + 1) write) found
-      ∙ ap (λ actions. actions ++ events_in found) (events-write_told watch.json watch.trace watch.family (now.told + 1) write)
+      let deed = deed_told watch.names state_now write in
+      events-append (write_told watch.json watch.trace watch.family (now.told + 1) deed write) found
+      ∙ ap (λ actions. actions ++ events_in found) (events-write_told watch.json watch.trace watch.family (now.told + 1) deed write)
       ∙ events-searched (telling begun watch) (probes_told watch.json watch.probes) (now.told + 1) now.waiting (apply state_now write)
 
   -- a write is told
   pub tells-write : (write : Write) (old mid new : Option (List ℕ)) → TellsActions begun watch slots count events_begun made old mid → Appends mid new (printed (lines_of write))
       → TellsActions begun watch slots count events_begun (made ++ Written write ∷ []) old new
   tells-write write old mid new before lines =
-      let trace = write_told watch.json watch.trace watch.family (now.told + 1) write in
+      let trace = write_told watch.json watch.trace watch.family (now.told + 1) (deed_told watch.names state_now write) write in
       let found = searched_after (telling begun watch) (probes_told watch.json watch.probes) (now.told + 1) now.waiting (apply state_now write) in
       tells-then (Written write ∷ []) old mid new before
       (subst (λ effects. Appends mid new (printed effects)) (ap (λ effects. trace ++ effects) (sym (append-nil found))) lines)
@@ -101,7 +102,7 @@ module _ (begun : Managed) (watch : Watching) (slots : ℕ) (count : Count) (eve
       → TellsActions begun watch slots count events_begun made old mid → CutsLines (lines_of write) mid new
       → CutsEffects (effects_on begun watch slots count events_begun all) events_begun events_new old new
   cuts-write write rest all events_new old mid new whole grown before cuts =
-      let trace = write_told watch.json watch.trace watch.family (now.told + 1) write in
+      let trace = write_told watch.json watch.trace watch.family (now.told + 1) (deed_told watch.names state_now write) write in
       let found = searched_after (telling begun watch) (probes_told watch.json watch.probes) (now.told + 1) now.waiting (apply state_now write) in
       let later = effects_of (telling begun watch) (probes_told watch.json watch.probes) (now.told + 1) (min (now.waiting + 1) watch.depth) (apply state_now write) rest in
       cut-lines (effects_on begun watch slots count events_begun all) (so_far ++ Acts (Written write) ∷ []) (lines_of write) later events_begun events_new old mid new

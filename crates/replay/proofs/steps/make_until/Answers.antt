@@ -9,12 +9,13 @@ use Rattle.tcam_device.specs.Flight.{writes_in}
 use Rattle.tcam_device.specs.State.{replay}
 use Rattle.tcam_device.specs.View.{device_state, journal}
 use Rattle.batch_order.specs.Steps.{KeepsCurrent, actions_of}
-use Rattle.replay.specs.Effects.{printed, write_told}
+use Rattle.replay.specs.Effects.{deed_told, printed, write_told}
 use Rattle.replay.specs.InFlight.{IsSeen}
 use Rattle.replay.specs.Outside.{CutsLines}
 use Rattle.batch_order.proofs.under_way.Stepped.{same_slots}
 use Rattle.replay.proofs.making.Acting.{some-slots}
 use Rattle.replay.proofs.making.Tries.{tried-none}
+use Rattle.replay.proofs.making.Deeds.{deed-made}
 use Rattle.replay.proofs.between.Leaving.{counted-failed, leaves-as, leaves-cut, leaves-line, leaves-made, leaves-then, leaves-told, leaves-tried, uncounted}
 use Rattle.replay.proofs.making.Making.{come-drained, drained-acts, drained-none, few-written, fewer-drained, fewer-passed, fewer-written, goes-idle, left-now, making-drained, making-none, making-passed, making-turned, making-written, may-now, more-left, passed-acts, turned-straight, waits-left, wrote-acts}
 use Rattle.replay.proofs.making.Reported.{cuts-before, cuts-drain, cuts-write, tells-drain, tells-write}
@@ -38,6 +39,14 @@ making-init g c =
 -- it may be turned round
 pub turn_round-requires : goal.turn_round-requires
 turn_round-requires g c = may-now _ _ _ c.making.manager _ _ _ _ _ _ _ c.making.invariant.making c.requires.may_turn
+
+-- what the next write does may be read off the device
+pub next_deed-deed-requires : goal.next_deed-deed-requires
+next_deed-deed-requires g c =
+    let i = c.making.invariant in
+    let m = making-turned c.args.most c.args.manager.now c.making.manager c.turn_round.new.manager c.args.watch.now c.args.count.now c.making.count (g.D.Writable.view c.args.device.now).events (g.D.Writable.view c.making.device).events (g.D.Writable.view c.making.device).flight (g.D.Writable.view c.making.device).spare i.making c.turn_round.ensures.turns c.turn_round.ensures.both_ways in
+    let straight = turned-straight c.args.most c.args.manager.now c.making.manager c.turn_round.new.manager c.args.watch.now c.args.count.now c.making.count (g.D.Writable.view c.args.device.now).events (g.D.Writable.view c.making.device).events (g.D.Writable.view c.making.device).flight (g.D.Writable.view c.making.device).spare i.making c.turn_round.ensures.turns c.turn_round.ensures.both_ways in
+    rw (some-slots c.args.most c.args.count.now.told c.args.manager.now c.turn_round.new.manager m.some, i.leaves.slots) c.requires.slots
 
 -- the next step may be made
 pub step_tried-requires-clause-slots : goal.step_tried-requires-clause-slots
@@ -68,6 +77,8 @@ making-preserved-in-Ok g c =
     let step = c.in-Ok-Wrote.field-0 in
     let write = c.in-Ok-Wrote.write in
     let wrote = c.in-Ok-Wrote.field-0-is in
+    let deed = deed-made c.args.watch.now.names (g.D.Writable.view c.args.device.now).slots (g.D.Writable.view c.making.device).slots (g.D.Writable.view c.making.device).events c.turn_round.new.manager _ step c.step_tried.new.manager write c.next_deed-deed.result
+    c.next_deed-deed.ensures i.leaves.slots made.stepped wrote in
     let grown = made.made.events ∙ ap (λ one. (g.D.Writable.view c.making.device).events ++ actions_of one) wrote in
     let stays = rw (made.made.slots, i.leaves.slots) at made.stays_on in
     let within = subst (λ n. n ≤ (g.D.Writable.view c.args.device.now).slots) (sym (same_slots _ _ _ _ _ made.stepped ∙ some-slots c.args.most c.args.count.now.told c.args.manager.now c.turn_round.new.manager m.some)) c.requires.slots in
@@ -80,7 +91,7 @@ making-preserved-in-Ok g c =
           (rw told.others.spare made.room) told.told told.waiting (rw made.made.flight at told.flight);
       told = λ which seen. tells-write c.args.manager.now c.args.watch.now (g.D.Writable.view c.args.device.now).slots c.args.count.now (g.D.Writable.view c.args.device.now).events m.some.made c.making.count (g.D.Writable.view c.making.device).events m.come m.events write (counted which (g.K.Sink.taken c.args.sink.now) (g.K.Sink.accepted c.args.sink.now)) (counted which (g.K.Sink.taken c.making.sink) (g.K.Sink.accepted c.making.sink)) (counted which (g.K.Sink.taken c.tell_write.new.sink) (g.K.Sink.accepted c.tell_write.new.sink)) (i.told which seen)
           (as-written c.args.manager.now c.turn_round.new.manager c.step_tried.new.manager c.args.watch.now step write (g.D.Writable.view c.args.device.now).slots (journal (g.D.Writable.view c.making.device)) (journal (g.D.Writable.view c.step_tried.new.device)) (g.D.Writable.view c.making.device).events (g.D.Writable.view c.step_tried.new.device).events (g.D.Writable.view c.making.device).flight (g.D.Writable.view c.step_tried.new.device).flight c.making.count.waiting refl refl grown made.made.flight stays wrote made.keeps within made.serves m.words m.few told.keys (seen-turned c.making.manager c.turn_round.new.manager (g.D.Writable.view c.args.device.now).slots (g.D.Writable.view c.making.device).events (g.D.Writable.view c.making.device).flight c.turn_round.ensures.state c.turn_round.ensures.current (i.seen seen))
-          (λ lines. Appends (counted which (g.K.Sink.taken c.making.sink) (g.K.Sink.accepted c.making.sink)) (counted which (g.K.Sink.taken c.tell_write.new.sink) (g.K.Sink.accepted c.tell_write.new.sink)) (printed lines)) (write_told c.args.watch.now.json c.args.watch.now.trace c.args.watch.now.family (c.making.count.told + 1) write) (c.making.count.told + 1) (rw (made.made.slots, i.leaves.slots) at (told.lines.whole which)));
+          (λ lines. Appends (counted which (g.K.Sink.taken c.making.sink) (g.K.Sink.accepted c.making.sink)) (counted which (g.K.Sink.taken c.tell_write.new.sink) (g.K.Sink.accepted c.tell_write.new.sink)) (printed lines)) (write_told c.args.watch.now.json c.args.watch.now.trace c.args.watch.now.family (c.making.count.told + 1) (deed_told c.args.watch.now.names (replay (g.D.Writable.view c.args.device.now).slots (writes_in (g.D.Writable.view c.making.device).events)) write) write) (c.making.count.told + 1) (rw (made.made.slots, i.leaves.slots, deed) at (told.lines.whole which)));
       seen = λ seen. seen-written c.args.manager.now c.turn_round.new.manager c.step_tried.new.manager c.args.watch.now step write (g.D.Writable.view c.args.device.now).slots (journal (g.D.Writable.view c.making.device)) (journal (g.D.Writable.view c.step_tried.new.device)) (g.D.Writable.view c.making.device).events (g.D.Writable.view c.step_tried.new.device).events (g.D.Writable.view c.making.device).flight (g.D.Writable.view c.step_tried.new.device).flight c.making.count.waiting refl refl grown made.made.flight stays wrote made.keeps within made.serves m.words m.few told.keys (seen-turned c.making.manager c.turn_round.new.manager (g.D.Writable.view c.args.device.now).slots (g.D.Writable.view c.making.device).events (g.D.Writable.view c.making.device).flight c.turn_round.ensures.state c.turn_round.ensures.current (i.seen seen))
           (g.D.Writable.view c.tell_write.new.device).events (g.D.Writable.view c.tell_write.new.device).flight told.others.events (rw (made.made.slots, i.leaves.slots) at told.flight);
       before = before;
@@ -109,6 +120,8 @@ returns-in-Err-tell_write-clause-makes g c = λ which.
     let step = c.in-Ok-Wrote.field-0 in
     let write = c.in-Ok-Wrote.write in
     let wrote = c.in-Ok-Wrote.field-0-is in
+    let deed = deed-made c.args.watch.now.names (g.D.Writable.view c.args.device.now).slots (g.D.Writable.view c.making.device).slots (g.D.Writable.view c.making.device).events c.turn_round.new.manager _ step c.step_tried.new.manager write c.next_deed-deed.result
+    c.next_deed-deed.ensures i.leaves.slots made.stepped wrote in
     let grown = made.made.events ∙ ap (λ one. (g.D.Writable.view c.making.device).events ++ actions_of one) wrote in
     let stays = rw (made.made.slots, i.leaves.slots) at made.stays_on in
     let within = subst (λ n. n ≤ (g.D.Writable.view c.args.device.now).slots) (sym (same_slots _ _ _ _ _ made.stepped ∙ some-slots c.args.most c.args.count.now.told c.args.manager.now c.turn_round.new.manager m.some)) c.requires.slots in
@@ -124,13 +137,13 @@ returns-in-Err-tell_write-clause-makes g c = λ which.
             (λ seen. cuts-write c.args.manager.now c.args.watch.now (g.D.Writable.view c.args.device.now).slots c.args.count.now (g.D.Writable.view c.args.device.now).events m.some.made c.making.count (g.D.Writable.view c.making.device).events m.come m.events write acts.left (m.some.made ++ action.Written write ∷ acts.left) (g.D.Writable.view c.tell_write.new.device).events (counted which (g.K.Sink.taken c.args.sink.now) (g.K.Sink.accepted c.args.sink.now)) (counted which (g.K.Sink.taken c.making.sink) (g.K.Sink.accepted c.making.sink)) (counted which (g.K.Sink.taken c.tell_write.new.sink) (g.K.Sink.accepted c.tell_write.new.sink))
             refl (told.others.events ∙ grown) (i.told which seen)
             (as-written c.args.manager.now c.turn_round.new.manager c.step_tried.new.manager c.args.watch.now step write (g.D.Writable.view c.args.device.now).slots (journal (g.D.Writable.view c.making.device)) (journal (g.D.Writable.view c.step_tried.new.device)) (g.D.Writable.view c.making.device).events (g.D.Writable.view c.step_tried.new.device).events (g.D.Writable.view c.making.device).flight (g.D.Writable.view c.step_tried.new.device).flight c.making.count.waiting refl refl grown made.made.flight stays wrote made.keeps within made.serves m.words m.few told.keys (seen-turned c.making.manager c.turn_round.new.manager (g.D.Writable.view c.args.device.now).slots (g.D.Writable.view c.making.device).events (g.D.Writable.view c.making.device).flight c.turn_round.ensures.state c.turn_round.ensures.current (i.seen seen))
-            (λ lines. CutsLines lines (counted which (g.K.Sink.taken c.making.sink) (g.K.Sink.accepted c.making.sink)) (counted which (g.K.Sink.taken c.tell_write.new.sink) (g.K.Sink.accepted c.tell_write.new.sink))) (write_told c.args.watch.now.json c.args.watch.now.trace c.args.watch.now.family (c.making.count.told + 1) write) (c.making.count.told + 1) (rw (made.made.slots, i.leaves.slots) at (told.lines.part which)))),
+            (λ lines. CutsLines lines (counted which (g.K.Sink.taken c.making.sink) (g.K.Sink.accepted c.making.sink)) (counted which (g.K.Sink.taken c.tell_write.new.sink) (g.K.Sink.accepted c.tell_write.new.sink))) (write_told c.args.watch.now.json c.args.watch.now.trace c.args.watch.now.family (c.making.count.told + 1) (deed_told c.args.watch.now.names (replay (g.D.Writable.view c.args.device.now).slots (writes_in (g.D.Writable.view c.making.device).events)) write) write) (c.making.count.told + 1) (rw (made.made.slots, i.leaves.slots, deed) at (told.lines.part which)))),
         before,
         within-written c.args.stop c.args.count.now.told c.making.count.told c.tell_write.new.count.told m.some.made m.some.left acts.left write m.come.told i.reach left early told.told,
         all-some c.args.stop _ (λ after. λ enough. (λ seen. cuts-write c.args.manager.now c.args.watch.now (g.D.Writable.view c.args.device.now).slots c.args.count.now (g.D.Writable.view c.args.device.now).events m.some.made c.making.count (g.D.Writable.view c.making.device).events m.come m.events write (up_to_writes (after - c.args.count.now.told - length (writes_in (m.some.made ++ action.Written write ∷ []))) acts.left) ((m.some.made ++ action.Written write ∷ []) ++ up_to_writes (after - c.args.count.now.told - length (writes_in (m.some.made ++ action.Written write ∷ []))) acts.left) (g.D.Writable.view c.tell_write.new.device).events (counted which (g.K.Sink.taken c.args.sink.now) (g.K.Sink.accepted c.args.sink.now)) (counted which (g.K.Sink.taken c.making.sink) (g.K.Sink.accepted c.making.sink)) (counted which (g.K.Sink.taken c.tell_write.new.sink) (g.K.Sink.accepted c.tell_write.new.sink))
             (append_assoc m.some.made (action.Written write ∷ []) (up_to_writes (after - c.args.count.now.told - length (writes_in (m.some.made ++ action.Written write ∷ []))) acts.left)) (told.others.events ∙ grown) (i.told which seen)
             (as-written c.args.manager.now c.turn_round.new.manager c.step_tried.new.manager c.args.watch.now step write (g.D.Writable.view c.args.device.now).slots (journal (g.D.Writable.view c.making.device)) (journal (g.D.Writable.view c.step_tried.new.device)) (g.D.Writable.view c.making.device).events (g.D.Writable.view c.step_tried.new.device).events (g.D.Writable.view c.making.device).flight (g.D.Writable.view c.step_tried.new.device).flight c.making.count.waiting refl refl grown made.made.flight stays wrote made.keeps within made.serves m.words m.few told.keys (seen-turned c.making.manager c.turn_round.new.manager (g.D.Writable.view c.args.device.now).slots (g.D.Writable.view c.making.device).events (g.D.Writable.view c.making.device).flight c.turn_round.ensures.state c.turn_round.ensures.current (i.seen seen))
-            (λ lines. CutsLines lines (counted which (g.K.Sink.taken c.making.sink) (g.K.Sink.accepted c.making.sink)) (counted which (g.K.Sink.taken c.tell_write.new.sink) (g.K.Sink.accepted c.tell_write.new.sink))) (write_told c.args.watch.now.json c.args.watch.now.trace c.args.watch.now.family (c.making.count.told + 1) write) (c.making.count.told + 1) (rw (made.made.slots, i.leaves.slots) at (told.lines.part which))))),
+            (λ lines. CutsLines lines (counted which (g.K.Sink.taken c.making.sink) (g.K.Sink.accepted c.making.sink)) (counted which (g.K.Sink.taken c.tell_write.new.sink) (g.K.Sink.accepted c.tell_write.new.sink))) (write_told c.args.watch.now.json c.args.watch.now.trace c.args.watch.now.family (c.making.count.told + 1) (deed_told c.args.watch.now.names (replay (g.D.Writable.view c.args.device.now).slots (writes_in (g.D.Writable.view c.making.device).events)) write) write) (c.making.count.told + 1) (rw (made.made.slots, i.leaves.slots, deed) at (told.lines.part which))))),
       ),
     )
 

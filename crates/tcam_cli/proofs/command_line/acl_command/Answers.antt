@@ -11,4 +11,5 @@ returns-clause-app c =
     let placement = c.in_ok-arg-3.ensures.shape c.placement_arg.ensures.global ∙ ap₂ with_rule ranges c.placement_arg.ensures.rule in
     let trace = c.in_ok-arg-4.ensures.shape c.trace_arg.ensures.global ∙ ap₂ with_rule placement c.trace_arg.ensures.rule in
     let depth = c.in_ok-arg-5.ensures.shape c.depth_arg.ensures.global ∙ ap₂ with_rule trace c.depth_arg.ensures.rule in
-    c.in_ok-arg-6.ensures.shape c.json_arg.ensures.global ∙ ap₂ with_rule depth c.json_arg.ensures.rule
+    let json = c.in_ok-arg-6.ensures.shape c.json_arg.ensures.global ∙ ap₂ with_rule depth c.json_arg.ensures.rule in
+    c.in_ok-arg-7.ensures.shape c.names_arg.ensures.global ∙ ap₂ with_rule json c.names_arg.ensures.rule

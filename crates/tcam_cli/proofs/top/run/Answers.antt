@@ -25,7 +25,7 @@ run_script-requires-clause-begun g c =
     let slots = (g.D.Writable.view c.args.device.now).slots in
     let range = rw c.in-Ok-Script.field-0-is at c.in-Ok-Script.ensures.within in
     let within : c.in-Ok-Script.slots ≤ slots = omega (arith, range.1) in
-    ap (progress_of slots) c.in-Ok.ensures ∙ begins c.in-Ok-Script.mode c.in-Ok-Script.placement c.in-Ok-Script.family c.in-Ok-Script.slots slots c.in-Ok-Script.trace c.in-Ok-Script.depth c.in-Ok-Script.json within
+    ap (progress_of slots) c.in-Ok.ensures ∙ begins c.in-Ok-Script.mode c.in-Ok-Script.placement c.in-Ok-Script.family c.in-Ok-Script.slots slots c.in-Ok-Script.trace c.in-Ok-Script.depth c.in-Ok-Script.json c.in-Ok-Script.names within
 
 pub returns-in-Ok-clause-carried_out : goal.returns-in-Ok-clause-carried_out
 returns-in-Ok-clause-carried_out g c =
@@ -136,7 +136,7 @@ run_made-requires-clause-begun g c =
     let most = numbers.most_slots in
     let device = c.requires.slots in
     let within : c.in-Ok-Made.slots ≤ slots = omega (arith, most, device) in
-    ap (progress_of slots) c.in-Ok-new.ensures ∙ begins c.in-Ok-Made.mode c.in-Ok-Made.placement Acl c.in-Ok-Made.slots slots false 0 false within
+    ap (progress_of slots) c.in-Ok-new.ensures ∙ begins c.in-Ok-Made.mode c.in-Ok-Made.placement Acl c.in-Ok-Made.slots slots false 0 false false within
 
 pub returns-in-Ok-new-clause-carried_out : goal.returns-in-Ok-new-clause-carried_out
 returns-in-Ok-new-clause-carried_out g c =

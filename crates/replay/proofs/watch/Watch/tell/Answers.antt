@@ -32,7 +32,7 @@ returns-in_err-search-clause-lines g c =
     let full : c.args.waiting ≡ c.args.self.now.depth = subst (λ (one : Watching). c.args.waiting ≡ one.depth) c.self.view_is c.if-waiting-depth.true in
     record {
       whole = λ which. search rules;
-      part = λ which. cuts-behind c.from_residual-in_err-search.result (write_told watch.json watch.trace watch.family c.args.number c.args.write.now)
+      part = λ which. cuts-behind c.from_residual-in_err-search.result (write_told watch.json watch.trace watch.family c.args.number c.args.deed.now c.args.write.now)
           (found_after watch.family (probes_told watch.json watch.probes) watch.depth c.args.number c.args.waiting state flight)
           (counted which (g.K.Sink.taken c.args.sink.now) (g.K.Sink.accepted c.args.sink.now)) (counted which (g.K.Sink.taken c.tell_write.new.sink) (g.K.Sink.accepted c.tell_write.new.sink)) (counted which (g.K.Sink.taken c.search.new.sink) (g.K.Sink.accepted c.search.new.sink)) (first.whole which)
           (subst (λ more. CutsLines more (counted which (g.K.Sink.taken c.tell_write.new.sink) (g.K.Sink.accepted c.tell_write.new.sink)) (counted which (g.K.Sink.taken c.search.new.sink) (g.K.Sink.accepted c.search.new.sink)))
@@ -50,7 +50,7 @@ returns-in_ok-search-clause-lines g c =
     let first = c.in_ok-tell_write.ensures in
     let lines = c.in_ok-search.ensures.lines in
     let full : c.args.waiting ≡ c.args.self.now.depth = subst (λ (one : Watching). c.args.waiting ≡ one.depth) c.self.view_is c.if-waiting-depth.true in
-    let here = write_told watch.json watch.trace watch.family c.args.number c.args.write.now in
+    let here = write_told watch.json watch.trace watch.family c.args.number c.args.deed.now c.args.write.now in
     let found = found_after watch.family (probes_told watch.json watch.probes) watch.depth c.args.number c.args.waiting state flight in
     record {
       whole = λ which.

@@ -1,7 +1,7 @@
 -- The line of a write names its rule by the family, and may be cut.
 use Rattle.std.proofs.Common.{◌≡◌, true, false, [], sym, ap, ◌∙◌}
 use Rattle.replay.specs.Running.{Watching}
-use Rattle.replay.proofs.lines.Telling.{line-alone, line-cut, trace-named}
+use Rattle.replay.proofs.lines.Telling.{line-alone, line-cut}
 use Rattle.replay.proofs.watch.Watch.tell_write.Goals as goal
 
 pub returns-then-self : goal.returns-then-self
@@ -11,10 +11,8 @@ returns-then-self g c =
     rw json (line-alone g.K.Sink.taken g.K.Sink.accepted g.K.Sink.faults _ _ _ c.write_json.result
     (rw (c.journal_line.ensures, c.version.ensures, named) at c.write_json.ensures))
 
-pub returns-in_err-write_trace : goal.returns-in_err-write_trace
-returns-in_err-write_trace g c =
+pub returns-in_err-trace_write : goal.returns-in_err-trace_write
+returns-in_err-trace_write g c =
     let words : c.args.self.now.json ≡ false = ap (λ (watch : Watching). watch.json) (sym c.self.view_is) ∙ c.if-self.false in
     let asked : c.args.self.now.trace ≡ true = ap (λ (watch : Watching). watch.trace) (sym c.self.view_is) ∙ c.if-self-2.true in
-    let named : c.self.inside.family ≡ c.args.self.now.family = ap (λ (watch : Watching). watch.family) c.self.view_is in
-    rw (words, asked) (line-cut g.K.Sink.taken g.K.Sink.accepted g.K.Sink.faults _ [] c.from_residual.result _ _ _ c.from_residual.ensures.0
-    (trace-named g.K.Sink.taken g.K.Sink.accepted g.K.Sink.faults _ _ _ c.args.self.now.family c.self.inside.family c.args.number c.args.write.now named c.in_err-write_trace.ensures))
+    rw (words, asked) (line-cut g.K.Sink.taken g.K.Sink.accepted g.K.Sink.faults _ [] c.from_residual.result _ _ _ c.from_residual.ensures.0 c.in_err-trace_write.ensures)
