@@ -23,6 +23,7 @@ reader_named word =
     else if bytes_eq word (codes "router") || bytes_eq word (codes "router6") then reader.Router
     else if bytes_eq word (codes "draw") then reader.Draw
     else if bytes_eq word (codes "import") then reader.Import
+    else if bytes_eq word (codes "judge") then reader.Judge
     else reader.Table
 
 -- the same, if there is such a word

@@ -10,11 +10,12 @@
 //! `own_texts` the help. What is wrong with a script `explain` tells.
 //!
 //! # Decided
-//! - **Whether words are wrong their own reader says** (`read_words` of `tcam_cli`, of `trace_draw` and of `import_cli`, and
-//!   `read_router_words` of `router_cli`), and the search explains: words are wrong exactly where the program would answer `usage`.
+//! - **Whether words are wrong their own reader says** (`read_words` of `tcam_cli`, `trace_draw`, `import_cli` and
+//!   `judge_cli`, `read_router_words` of `router_cli`), and the search explains: words are wrong exactly where the program
+//!   would answer `usage`.
 //!   Where the search finds none of them wrong, a line says that they are no command line.
 //! - **Each wrong word is told**, and the script only where none is: words that are wrong don't say what the script is.
-//! - **Of made commands, of a trace and of what is imported the words alone are explained, and of a router's script no refusal** (`explain_router`).
+//! - **Of made commands, of a trace, its judgement and what is imported the words alone are explained, and of a router's script no refusal** (`explain_router`).
 #![tactic(auto)]
 
 mod options;

@@ -14,6 +14,7 @@ pub(crate) enum Subcommand {
     Verify,
     Draw,
     Import,
+    Judge,
 }
 
 /// The options that some command has.
@@ -23,6 +24,7 @@ pub(crate) enum Name {
     Ranges,
     Placement,
     Trace,
+    Names,
     Depth,
     Json,
     Commit,
@@ -30,11 +32,12 @@ pub(crate) enum Name {
     Occupancy,
     Version,
     LeaveOut,
+    Results,
     Help,
 }
 
 /// How many options there are.
-pub(crate) const NAMES: usize = 12;
+pub(crate) const NAMES: usize = 14;
 
 /// The command that a word names.
 pub(crate) fn subcommand_named(word: &str) -> Option<Subcommand> {
@@ -46,6 +49,7 @@ pub(crate) fn subcommand_named(word: &str) -> Option<Subcommand> {
         "verify" => Some(Subcommand::Verify),
         "draw" => Some(Subcommand::Draw),
         "import" => Some(Subcommand::Import),
+        "judge" => Some(Subcommand::Judge),
         _ => None,
     }
 }
@@ -57,6 +61,7 @@ pub(crate) fn option_named(word: &str) -> Option<Name> {
         "--ranges" => Some(Name::Ranges),
         "--placement" => Some(Name::Placement),
         "--trace" => Some(Name::Trace),
+        "--names" => Some(Name::Names),
         "--depth" => Some(Name::Depth),
         "--json" => Some(Name::Json),
         "--commit" => Some(Name::Commit),
@@ -64,6 +69,7 @@ pub(crate) fn option_named(word: &str) -> Option<Name> {
         "--occupancy" => Some(Name::Occupancy),
         "--version" => Some(Name::Version),
         "--leave-out" => Some(Name::LeaveOut),
+        "--results" => Some(Name::Results),
         "--help" | "-h" => Some(Name::Help),
         _ => None,
     }
@@ -85,22 +91,26 @@ pub(crate) fn has_option(subcommand: Subcommand, name: Name) -> bool {
             subcommand,
             Subcommand::Route | Subcommand::Acl | Subcommand::Router
         ),
-        Name::Depth | Name::Json => matches!(subcommand, Subcommand::Route | Subcommand::Acl),
+        Name::Names | Name::Depth | Name::Json => {
+            matches!(subcommand, Subcommand::Route | Subcommand::Acl)
+        }
         Name::Commit | Name::Commits | Name::Occupancy => subcommand == Subcommand::Draw,
         Name::Version | Name::LeaveOut => subcommand == Subcommand::Import,
+        Name::Results => subcommand == Subcommand::Judge,
     }
 }
 
 /// The options of a command, as a sentence has them.
 pub(crate) fn options_text(subcommand: Subcommand) -> &'static str {
     match subcommand {
-        Subcommand::Route => "--slots, --placement, --trace, --depth and --json",
-        Subcommand::Acl => "--slots, --ranges, --placement, --trace, --depth and --json",
+        Subcommand::Route => "--slots, --placement, --trace, --names, --depth and --json",
+        Subcommand::Acl => "--slots, --ranges, --placement, --trace, --names, --depth and --json",
         Subcommand::Router => "--slots, --ranges, --placement and --trace",
         Subcommand::Gen => "--slots, --ranges and --placement",
         Subcommand::Verify => "no option",
         Subcommand::Draw => "--commit, --commits and --occupancy",
         Subcommand::Import => "--version and --leave-out",
+        Subcommand::Judge => "--results",
     }
 }
 
@@ -114,7 +124,13 @@ pub(crate) fn values_text(name: Name) -> Option<&'static str> {
         Name::Commit => Some("a number from 1"),
         Name::Commits => Some("two numbers from 1, as 2-5"),
         Name::Version => Some("4 or 6"),
-        Name::Trace | Name::Json | Name::Occupancy | Name::LeaveOut | Name::Help => None,
+        Name::Trace
+        | Name::Names
+        | Name::Json
+        | Name::Occupancy
+        | Name::LeaveOut
+        | Name::Results
+        | Name::Help => None,
     }
 }
 
@@ -128,7 +144,13 @@ pub(crate) fn is_value(name: Name, value: &str) -> bool {
         Name::Commit => is_commit(value),
         Name::Commits => are_commits(value),
         Name::Version => matches!(value, "4" | "6"),
-        Name::Trace | Name::Json | Name::Occupancy | Name::LeaveOut | Name::Help => false,
+        Name::Trace
+        | Name::Names
+        | Name::Json
+        | Name::Occupancy
+        | Name::LeaveOut
+        | Name::Results
+        | Name::Help => false,
     }
 }
 
@@ -165,6 +187,8 @@ pub(crate) fn place_of(name: Name) -> usize
         Name::Help => 9,
         Name::Version => 10,
         Name::LeaveOut => 11,
+        Name::Names => 12,
+        Name::Results => 13,
     }
 }
 
@@ -175,6 +199,7 @@ pub(crate) fn option_like(word: &str) -> Option<&'static str> {
         "--range" | "--bits" | "--cover" | "-r" => Some("--ranges"),
         "--place" | "--placements" | "-p" => Some("--placement"),
         "--traces" | "--verbose" | "-v" | "-t" => Some("--trace"),
+        "--name" | "--named" | "-n" => Some("--names"),
         "--depths" | "-d" => Some("--depth"),
         "--JSON" | "-j" => Some("--json"),
         "-help" | "-?" => Some("--help"),

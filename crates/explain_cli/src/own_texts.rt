@@ -21,7 +21,7 @@ Of a script each of these has a line:
 
 What a trial leaves, and what a line at fault was to be, isn't guessed: no
 refusal is foretold behind these, and none of a router's script. Of gen, verify,
-draw and import the words alone are explained.
+draw, import and judge the words alone are explained.
 
 Exit status:
     0     nothing is wrong

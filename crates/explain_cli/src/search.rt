@@ -8,7 +8,8 @@ use option_words::number_of;
 use std::alloc::AllocError;
 
 /// The names of the commands, as a sentence has them.
-const COMMANDS: &str = "route, acl, route6, acl6, router, router6, gen, verify, draw or import";
+const COMMANDS: &str =
+    "route, acl, route6, acl6, router, router6, gen, verify, draw, import or judge";
 
 /// A walk over the words behind a command's name: which options came, and how many other words.
 #[derive(Drop)]
@@ -172,7 +173,7 @@ fn tell_other(text: &mut String, walk: &mut Walk<'_>, word: &str) -> Result<(), 
     match walk.subcommand {
         Subcommand::Gen => tell_made(text, place, word),
         Subcommand::Import => tell_format(text, place, word),
-        Subcommand::Verify | Subcommand::Draw => {
+        Subcommand::Verify | Subcommand::Draw | Subcommand::Judge => {
             writeln!(
                 text,
                 "{word}: the trace comes on standard input: tcam {name} < {word}"
@@ -190,12 +191,12 @@ fn tell_other(text: &mut String, walk: &mut Walk<'_>, word: &str) -> Result<(), 
 /// What is wrong with a word of an import that is no option, by its place among these.
 fn tell_format(text: &mut String, place: usize, word: &str) -> Result<(), AllocError> {
     match (place, word) {
-        (0, "ip-routes") => Ok(()),
-        (0, _) => writeln!(text, "{word}: ip-routes"),
+        (0, "ip-routes" | "ip-monitor") => Ok(()),
+        (0, _) => writeln!(text, "{word}: ip-routes or ip-monitor"),
         _ => {
             writeln!(
                 text,
-                "{word}: what is imported comes on standard input: tcam import ip-routes < {word}"
+                "{word}: what is imported comes on standard input: tcam import FORMAT < {word}"
             )
         }
     }
@@ -230,7 +231,7 @@ fn tell_missing(text: &mut String, walk: &Walk<'_>) -> Result<(), AllocError> {
     match walk.subcommand {
         Subcommand::Gen => tell_missing_numbers(text, walk.others),
         Subcommand::Import if walk.others == 0 => {
-            text.push_str("import: FORMAT is missing: ip-routes\n")
+            text.push_str("import: FORMAT is missing: ip-routes or ip-monitor\n")
         }
         _ => Ok(()),
     }

@@ -31,6 +31,8 @@ enum Reader {
     Draw,
     /// That of imports.
     Import,
+    /// That of judgements.
+    Judge,
     /// That of a command over one table.
     Table,
 }
@@ -99,6 +101,7 @@ fn kind_of(alloc: Global, words: &[String]) -> Result<Words, AllocError>
         Reader::Router => kind_of_router(alloc, words),
         Reader::Draw => kind_of_draw(alloc, words),
         Reader::Import => kind_of_import(alloc, words),
+        Reader::Judge => kind_of_judge(alloc, words),
         Reader::Table => kind_of_table(alloc, words),
     }
 }
@@ -122,6 +125,7 @@ fn reader_named(word: &str) -> Reader
         "router" | "router6" => Reader::Router,
         "draw" => Reader::Draw,
         "import" => Reader::Import,
+        "judge" => Reader::Judge,
         _ => Reader::Table,
     }
 }
@@ -151,6 +155,15 @@ fn kind_of_import(alloc: Global, words: &[String]) -> Result<Words, AllocError> 
         Ok(_) => Ok(Words::Other),
         Err(import_cli::WordsFault::Usage) => Ok(Words::Wrong),
         Err(import_cli::WordsFault::Memory) => Err(AllocError),
+    }
+}
+
+/// What words of the command line of judgements are.
+fn kind_of_judge(alloc: Global, words: &[String]) -> Result<Words, AllocError> {
+    match judge_cli::read_words(alloc, words) {
+        Ok(_) => Ok(Words::Other),
+        Err(judge_cli::WordsFault::Usage) => Ok(Words::Wrong),
+        Err(judge_cli::WordsFault::Memory) => Err(AllocError),
     }
 }
 

@@ -1,7 +1,10 @@
 -- The words of a table, what is known of them at the ports of a cube, and the part of the cube that is left.
-use Rattle.std.proofs.Common.{◌≡◌, ℕ, ◌/◌, ◌%◌, ◌^◌, ◌<◌, IsTrue, List, length, Option, Some, None, replicate, slice_set, inl, inr, refl, sym, ◌∙◌, subst, arith, get_or-set_same, get_or-set_other, length-set}
+use Rattle.std.proofs.Common.{◌≡◌, ℕ, ◌+◌, ◌-◌, ◌/◌, ◌%◌, ◌^◌, ◌<◌, ◌≤◌, bit_and, bit_xor, ap, IsTrue, List, length, Option, Some, None, replicate, slice_set, inl, inr, refl, sym, ◌∙◌, subst, arith, get_or-set_same, get_or-set_other, length-set}
 use Rattle.std.specs.Prelude.{slice_index, IfSome, IsNone}
+use Rattle.std.specs.Int.Bits.{and_zero_r}
 use Rattle.std.proofs.lemmas.Bool.{cases_eq}
+use Rattle.std.proofs.lemmas.Grind.{and-not_self}
+use Rattle.std.proofs.lemmas.Nat.{and_assoc, and_comm}
 use Rattle.rule_model.specs.declared.Key.{Key}
 use Rattle.rule_model.specs.Key.{IsKey}
 use Rattle.rule_model.specs.declared.words.Word.{Word}
@@ -37,6 +40,31 @@ pub known_here : (table : List ℕ) (value mask word : ℕ) → value < 2 ^ 16 �
     → (port : ℕ) → port < 2 ^ 16 → agrees port value mask → agrees (slice_index table port) word 65535
 known_here table value mask word below whole is port small near =
     subst (λ w. agrees (slice_index table port) w 65535) (sym is) (known_word table port value small below (subst (agrees port value) whole near))
+
+-- bits that two words have in common agree, and so does what agreed in more of them
+pub shared_agrees : (bits one other result : ℕ) → bit_xor one other ≤ 65535 → result ≡ bit_and bits (65535 - bit_xor one other) → bit_and (bit_xor one other) result ≡ 0
+shared_agrees bits one other result below is =
+    ap (bit_and (bit_xor one other)) is ∙ and_comm (bit_xor one other) (bit_and bits (65535 - bit_xor one other)) ∙ and-not_self bits 65535 (bit_xor one other) (bit_xor one other) refl below refl
+
+pub shared_kept : (bits rest result n : ℕ) → result ≡ bit_and bits rest → bit_and n bits ≡ 0 → bit_and n result ≡ 0
+shared_kept bits rest result n is zero = ap (bit_and n) is ∙ sym (and_assoc rest n bits) ∙ ap (λ m. bit_and m rest) zero ∙ and_comm 0 rest ∙ and_zero_r rest
+
+-- what is shared by the words at the ports below one
+abbrev pub IsSharedBelow : List ℕ → ℕ → ℕ → ℕ → ℕ → ℕ → Type 0
+IsSharedBelow words value mask word shared i = (port : ℕ) → port < i → agrees port value mask → agrees (slice_index words port) word shared
+
+pub shared_more : (words : List ℕ) (value mask word shared next i : ℕ) → IsSharedBelow words value mask word shared i → agrees (slice_index words i) word next
+    → ((n : ℕ) → bit_and n shared ≡ 0 → bit_and n next ≡ 0) → IsSharedBelow words value mask word next (i + 1)
+shared_more words value mask word shared next i before here kept port below near = elim (cases_eq port i) [
+  | inl same ↦ subst (λ n. agrees (slice_index words n) word next) (sym same) here
+  | inr other ↦ kept (bit_xor (slice_index words port) word) (before port (omega arith) near)
+]
+
+pub shared_past : (words : List ℕ) (value mask word shared i : ℕ) → IsSharedBelow words value mask word shared i → (agrees i value mask → ⊥) → IsSharedBelow words value mask word shared (i + 1)
+shared_past words value mask word shared i before far port below near = elim (cases_eq port i) [
+  | inl same ↦ absurd (far (subst (λ n. agrees n value mask) same near))
+  | inr other ↦ before port (omega arith) near
+]
 
 -- what is known of a table at the ports that agree with a value
 abbrev pub IsKnown : List ℕ → ℕ → ℕ → ℕ × ℕ → Type 0

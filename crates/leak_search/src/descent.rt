@@ -10,7 +10,7 @@ ghost use Rattle.leak_search.specs.Sought.{IsClear, IsCutOf, IsStep, IsWrongAt};
 use crate::alike::{best_cut, has_a_set};
 use crate::narrowing::narrowed_lists;
 use crate::settled::{Settled, Verdict, follows, settle};
-use crate::tables::{PortTables, cut_at, refined};
+use crate::tables::{PortTables, open_port, refined};
 use crate::{AnswerLists, Question, Sought};
 use rule_model::Rank;
 use std::alloc::{AllocError, Global};
@@ -114,27 +114,33 @@ fn step_in(
     let some = narrowed_lists(alloc, lists, part)?;
     match judged(question, &some, part) {
         Verdict::Right => Ok(Step::Ends(Sought::Clear)),
-        Verdict::Wrong => Ok(Step::Ends(Sought::Leaks(*part))),
+        Verdict::Wrong => Ok(wrong_in(some, part)),
         Verdict::Cut { lane, bit } => Ok(cut_in_two(some, part, lane, bit)),
     }
 }
 
-/// A cube is cut at a bit, or at one of the port that gives it.
+/// What follows for a cube all of whose words get a wrong answer. Where it tests a word of a port that may be one of several
+/// few of them may be words of keys, so it is cut on.
+fn wrong_in(lists: AnswerLists, part: &Cube) -> Step
+    ensures { IsCutOf lists part.now result }
+{
+    match open_port(part) {
+        None => Step::Ends(Sought::Leaks(*part)),
+        Some((lane, bit)) => cut_in_two(lists, part, lane, bit),
+    }
+}
+
+/// A cube is cut at a bit.
 fn cut_in_two(lists: AnswerLists, part: &Cube, lane: usize, bit: u32) -> Step
     requires { (lane < 11) × (bit < 32) }
     ensures { IsCutOf lists part.now result }
 {
-    match cut_at(part, lane, bit) {
-        None => Step::Ends(Sought::TooMany),
-        Some((cut_lane, cut_bit)) => {
-            let (lower, upper) = halves(part, cut_lane, cut_bit);
-            Step::Cuts(CutCube {
-                lists,
-                lower,
-                upper,
-            })
-        }
-    }
+    let (lower, upper) = halves(part, lane, bit);
+    Step::Cuts(CutCube {
+        lists,
+        lower,
+        upper,
+    })
 }
 
 /// What follows for a cube.

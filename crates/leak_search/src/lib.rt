@@ -12,7 +12,8 @@
 //! # Decided
 //! - **The search ends behind so many cubes** and tells so: how many there are is bounded by no more than the number of
 //!   keys, where entries overlap as they like.
-//! - **A bit that a table gives is cut at the port**: the words of the tables are known where a port is.
+//! - **A cube that tests a word of a table is cut at the port** where it would leak: few of its words may be words of keys.
+//!   What the words at all ports of a cube have in common is known, so that most of it is soon left out.
 #![tactic(auto)]
 
 mod alike;

@@ -71,18 +71,44 @@ impl PortWords {
     }
 
     /// Which bits the words at all ports that agree with a value wherever a mask is set have in common: their value,
-    /// and where it is known.
-    fn known(&self, value: u16, mask: u16) -> (u16, u16)
+    /// and where it is known. Where several ports agree it is told only if it is asked for: it takes a while.
+    fn known(&self, value: u16, mask: u16, asked: bool) -> (u16, u16)
         ensures { (port : ℕ) → port < 2 ^ 16 → bit_and (bit_xor port value) mask ≡ 0
             → bit_and (bit_xor (slice_index self.now port) result.0) result.1 ≡ 0 }
     {
         if mask == ALL_BITS {
             let word = self.at(value);
             (word, ALL_BITS)
+        } else if asked {
+            let word = self.at(value);
+            let shared = self.shared_by(value, mask, word);
+            (word, shared)
         } else {
             (0, 0)
         }
     }
+
+    /// Which bits the words at all such ports have in common with a word.
+    fn shared_by(&self, value: u16, mask: u16, word: u16) -> u16
+        ensures { (port : ℕ) → port < 2 ^ 16 → bit_and (bit_xor port value) mask ≡ 0
+            → bit_and (bit_xor (slice_index self.now port) word) result ≡ 0 }
+    {
+        let mut shared = ALL_BITS;
+        for i in 0..65_536usize {
+            if (i as u16 ^ value) & mask == 0 {
+                shared = shared_with(shared, self.words[i], word);
+            }
+        }
+        shared
+    }
+}
+
+/// Those of some bits that two words have in common.
+fn shared_with(bits: u16, one: u16, other: u16) -> u16
+    ensures shared { bit_and (bit_xor one other) result ≡ 0 }
+    ensures kept { (n : ℕ) → bit_and n bits ≡ 0 → bit_and n result ≡ 0 }
+{
+    bits & !(one ^ other)
 }
 
 /// The part of a cube in which a key's word can be, by what is known of the words of both tables. None comes only where
@@ -98,8 +124,12 @@ pub(crate) fn refined(tables: &PortTables, cube: &Cube) -> Option<Cube>
     let src_mask = upper(ports.1);
     let dst_value = lower(ports.0);
     let dst_mask = lower(ports.1);
-    let src = tables.src.known(src_value, src_mask);
-    let dst = tables.dst.known(dst_value, dst_mask);
+    let src = tables
+        .src
+        .known(src_value, src_mask, cube.mask.lane[10] >= 65_536);
+    let dst = tables
+        .dst
+        .known(dst_value, dst_mask, cube.mask.lane[10] % 65_536 > 0);
     let value = pair(src.0, dst.0);
     let mask = pair(src.1, dst.1);
     with_lane(cube, 10, value, mask)
@@ -126,18 +156,23 @@ fn pair(upper: u16, lower: u16) -> u32
     u32::from(upper) * 65_536 + u32::from(lower)
 }
 
-/// Where a cube is cut for a free bit of a lane: there, and for one that a table gives at the greatest free bit of the
-/// port. None comes only where the port has none.
-pub(crate) fn cut_at(cube: &Cube, lane: usize, bit: u32) -> Option<(usize, u32)>
-    requires { (lane < 11) × (bit < 32) }
+/// Where a cube tests bits of the word of a port that may be one of several, the greatest bit of that port which is free.
+pub(crate) fn open_port(cube: &Cube) -> Option<(usize, u32)>
     ensures { IfSome result (λ at. (at.0 < 11) × (at.1 < 32)) }
 {
-    if lane != 10 {
-        return Some((lane, bit));
+    match open_in(cube, 65_535 << 16) {
+        Some(at) => Some(at),
+        None => open_in(cube, 65_535),
     }
-    let half = if bit < 16 { 65_535 } else { 65_535 << 16 };
+}
+
+/// Likewise, of the port in this half of the lane.
+fn open_in(cube: &Cube, half: u32) -> Option<(usize, u32)>
+    ensures { IfSome result (λ at. (at.0 < 11) × (at.1 < 32)) }
+{
+    let tested = half & cube.mask.lane[10];
     let free = half & !cube.mask.lane[8];
-    if free == 0 {
+    if tested == 0 || free == 0 {
         None
     } else {
         Some((8, free.ilog2()))

@@ -1,8 +1,9 @@
 //! The program `tcam`: `tcam_cli`'s `run` over standard input, standard output and a blank device in memory; where the first
 //! word behind its name is `router` or `router6`, `router_cli`'s `run_router` over two, where it is `draw`, `trace_draw`'s
-//! `draw`, where it is `explain`, `explain_cli`'s `explain`, and where it is `import`, `import_cli`'s `run_import`.
+//! `draw`, where it is `explain`, `explain_cli`'s `explain`, where it is `import`, `import_cli`'s `run_import`, and where
+//! it is `judge`, `judge_cli`'s `run_judge`.
 //!
-//! What these five promise is proved; of these few lines nothing is said. What std's reader and writer do with the files is
+//! What these six promise is proved; of these few lines nothing is said. What std's reader and writer do with the files is
 //! trusted.
 //!
 //! # Decided
@@ -15,6 +16,7 @@ mod modelled;
 
 use explain_cli::explain;
 use import_cli::run_import;
+use judge_cli::run_judge;
 use memory_tcam::Shadowed;
 use modelled::Modelled;
 use router_cli::run_router;
@@ -61,6 +63,7 @@ fn run_process(rt: &HostRuntime) -> Result<Status, AllocError> {
         "draw" => Ok(draw(rt.alloc(), words.as_slice(), &mut source, &mut sink)),
         "explain" => Ok(explain(rt.alloc(), words.as_slice(), &mut source, &mut sink)),
         "import" => Ok(run_import(rt.alloc(), words.as_slice(), &mut source, &mut sink)),
+        "judge" => Ok(run_judge(rt.alloc(), words.as_slice(), &mut source, &mut sink)),
         "router" | "router6" => run_on_two(rt, words.as_slice(), &mut source, &mut sink),
         _ => run_on_device(rt, words.as_slice(), &mut source, &mut sink),
     }

@@ -1,0 +1,4 @@
+pub mod Judged
+pub mod Lines
+pub mod Rounds
+pub mod Whole

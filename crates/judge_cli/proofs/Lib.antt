@@ -1,0 +1,4 @@
+pub mod Told
+mod Words
+mod CommandLines
+mod Carried

@@ -1,0 +1,22 @@
+use Rattle.std.proofs.Common.{Err, [], ap}
+use Rattle.script_lines.proofs.Turns.{gives-none}
+use Rattle.driver_verify.specs.declared.DriverVerdict.TheVariants as verdict
+use Rattle.judge_cli.proofs.Carried.{misused, wanting}
+use Rattle.judge_cli.proofs.Told.{told-unread}
+use Rattle.judge_cli.proofs.top.run_judge.Goals as goal
+
+pub returns-in-Ok-clause-job : goal.returns-in-Ok-clause-job
+returns-in-Ok-clause-job g c = rw c.in-Ok.ensures.asked c.carry_out.ensures.job
+
+pub returns-in-Err-Usage-clause-job : goal.returns-in-Err-Usage-clause-job
+returns-in-Err-Usage-clause-job g c =
+    ([], gives-none _ _, (verdict.Memory, λ which. misused _ _ _ _ _ (c.in-Err-Usage.ensures.usage (ap Err c.in-Err-Usage.field-0-is)) c.as_bytes.ensures.value (c.write_last.ensures.closes which)))
+
+pub returns-in-Err-Memory-clause-job : goal.returns-in-Err-Memory-clause-job
+returns-in-Err-Memory-clause-job g c = ([], gives-none _ _, (verdict.Memory, λ which. wanting _ _))
+
+pub returns-in-Err-Usage-clause-read : goal.returns-in-Err-Usage-clause-read
+returns-in-Err-Usage-clause-read g c = told-unread _ _ _ c.write_last.ensures.kind (λ e. cc)
+
+pub returns-in-Err-Usage-clause-written : goal.returns-in-Err-Usage-clause-written
+returns-in-Err-Usage-clause-written g c = c.write_last.ensures.written (λ e. cc)

@@ -1,0 +1,4 @@
+pub mod OwnTexts
+pub mod CommandLine
+pub mod Lines
+pub mod Jobs

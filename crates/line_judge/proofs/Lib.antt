@@ -1,0 +1,11 @@
+pub mod Blocks
+pub mod Copied
+pub mod EndedSets
+pub mod Followed
+pub mod Judged
+pub mod JudgedEvents
+pub mod KeyCubes
+pub mod LinesTaken
+pub mod Meant
+pub mod Outcomes
+pub mod PlacesBehind

@@ -1,0 +1,9 @@
+use Rattle.std.proofs.lemmas.Result.{on_ok_weaker, IfErr-weaker}
+use Rattle.line_judge.proofs.LinesTaken.{add_stops, add_takes}
+use Rattle.line_judge.proofs.track.Track.add.Goals as goal
+
+pub returns-clause-taken : goal.returns-clause-taken
+returns-clause-taken c = on_ok_weaker c.push.result (λ is. add_takes c.args.self.now c.push.new.self c.args.rule.now c.requires is.0 is.1) c.push.ensures.pushed
+
+pub returns-clause-stopped : goal.returns-clause-stopped
+returns-clause-stopped c = IfErr-weaker c.push.result _ _ (λ fault is. add_stops c.args.self.now c.args.rule.now fault c.requires is) c.push.ensures.stopped

@@ -1,0 +1,4 @@
+pub mod Judgement
+pub mod Events
+pub mod Lookups
+pub mod Blocks
