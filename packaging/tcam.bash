@@ -5,14 +5,15 @@ _tcam() {
     case $before in
     --ranges) words="cover bits" ;;
     --placement) words="middle rank ends" ;;
+    --removals) words="first last" ;;
     --slots | --depth | --commit | --commits) ;; # a number, or two
     import) words="ip-routes ip-monitor --version --leave-out --help" ;;
     tcam | */tcam) words="route acl route6 acl6 router router6 gen verify draw explain import judge --help --version" ;;
     explain) words="route acl route6 acl6 router router6 gen verify draw import judge --help" ;;
     *)
         case $command in
-        route | route6) words="--slots --placement --trace --names --depth --json --help" ;;
-        acl | acl6) words="--slots --ranges --placement --trace --names --depth --json --help" ;;
+        route | route6) words="--slots --placement --removals --trace --names --depth --json --help" ;;
+        acl | acl6) words="--slots --ranges --placement --removals --trace --names --depth --json --help" ;;
         router | router6) words="--slots --ranges --placement --trace --help" ;;
         gen) words="--slots --ranges --placement --help" ;;
         verify) words="--help" ;;

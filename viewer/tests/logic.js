@@ -220,15 +220,13 @@ function run(words, input) {
     return { report: stdout.toString('latin1').split('\n').slice(0, -1), status };
 }
 
-// The commands of a script with packets, each with how many commits stand before it, and its probes.
+// The packets of a script, none for a frame, and its probes.
 function commandsOf(script) {
     const [packets, probes] = [[], []];
-    let commits = 0;
     for (const line of script.split('\n')) {
         const [word, ...rest] = line.trim().split(/[ \t]+/);
-        if (word === 'commit') commits += 1;
-        if (word === 'packet') packets.push({ commits, packet: rest.join(' ') });
-        if (word === 'frame') packets.push({ commits, packet: null });
+        if (word === 'packet') packets.push(rest.join(' '));
+        if (word === 'frame') packets.push(null);
         if (word === 'probe') probes.push(rest.join(' '));
     }
     return { packets, probes };
@@ -256,13 +254,23 @@ function compareScript(name, words, script) {
     judge(`${name}: what is found`, [], logic.whole(new logic.ProbeSearch(trace).run()).map(found => logic.findingText(trace, found)));
     const { packets, probes } = commandsOf(script);
     const player = new logic.Player(trace);
-    report.filter(line => line.startsWith('packet ')).forEach((line, at) => {
-        const { commits, packet } = packets[at];
-        const commit = trace.commits[commits - 1];
-        if (packet === null || commit === undefined) return;
-        judge(`${name}: packet ${packet}`, line.slice(7), answerAt(player, commit.firstStop + commit.events, packet));
-    });
+    comparePackets(name, player, report, packets);
     if (!words.includes('--depth')) compareProbes(name, player, report, probes);
+}
+
+// What each packet gets behind the last commit ahead of it in the report: one of the script may have been made in two.
+function comparePackets(name, player, report, packets) {
+    let commit;
+    let at = 0;
+    for (const line of report) {
+        const told = /^commit (\d+) /.exec(line);
+        if (told !== null) commit = player.trace.commits[told[1] - 1];
+        if (!line.startsWith('packet ')) continue;
+        const packet = packets[at];
+        at += 1;
+        if (packet === null || commit === undefined) continue;
+        judge(`${name}: packet ${packet}`, line.slice(7), answerAt(player, commit.firstStop + commit.events, packet));
+    }
 }
 
 // The look-ups of probes behind each write, which a report has before the line of the commit.

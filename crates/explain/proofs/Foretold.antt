@@ -10,6 +10,7 @@ use Rattle.settled_changes.specs.declared.requested.Requested.TheVariants.{Nothi
 use Rattle.settled_changes.specs.Requested.{asked_behind, asked_with, batch_behind, batch_with, settled_batch, settled_verdict}
 use Rattle.replay.specs.declared.Act.{Act}
 use Rattle.replay.specs.declared.Act.TheVariants.{Command, Ask, All, Probe, Packet, Commit, Trial, Crash}
+use Rattle.replay.specs.Early.{commit_verdict}
 use Rattle.replay.specs.Effects.{Setting}
 use Rattle.replay.specs.Script.{Script}
 use Rattle.script_runs.specs.declared.Status.{Status}
@@ -60,7 +61,7 @@ trial-comes (change ∷ changes) v a b more e = judged-comes v false b (λ told.
 
 -- what is foretold comes
 pub foretold-comes : (setting : Setting) (backs : List Bool) (rules : List Rule) (batch : List Change) (asked : Requested) (acts : List Act)
-    → foretells setting.slots setting.mode rules batch asked acts ≡ true → any_refused setting backs rules batch asked acts ≡ true
+    → foretells setting rules batch asked acts ≡ true → any_refused setting backs rules batch asked acts ≡ true
 foretold-comes setting backs rules batch asked [] e = e
 foretold-comes setting backs rules batch asked (Command change ∷ acts) e = foretold-comes setting backs rules (batch_with batch asked change) (asked_with asked change) acts e
 foretold-comes setting backs rules batch asked (Ask request ∷ acts) e = foretold-comes setting backs rules (batch_behind batch asked) (asked_behind batch asked request) acts e
@@ -69,24 +70,24 @@ foretold-comes setting backs rules batch asked (Probe key ∷ acts) e = foretold
 foretold-comes setting backs rules batch asked (Packet key ∷ acts) e = foretold-comes setting backs rules batch asked acts e
 foretold-comes setting backs rules batch asked (Commit ∷ acts) e =
     let next = set_after rules (settled_batch rules batch asked) in
-    judged-comes (settled_verdict setting.slots setting.mode rules batch asked) (foretells setting.slots setting.mode next [] Nothing acts) (any_refused setting backs next [] Nothing acts)
+    judged-comes (commit_verdict setting rules batch asked) (foretells setting next [] Nothing acts) (any_refused setting backs next [] Nothing acts)
     (foretold-comes setting backs next [] Nothing acts) e
 foretold-comes setting backs rules batch asked (Trial most ∷ acts) e =
     let next = set_after rules (settled_batch rules batch asked) in
-    trial-comes (settled_batch rules batch asked) (settled_verdict setting.slots setting.mode rules batch asked) (foretells setting.slots setting.mode next [] Nothing acts)
+    trial-comes (settled_batch rules batch asked) (settled_verdict setting.slots setting.mode rules batch asked) (foretells setting next [] Nothing acts)
     (elim (is_back backs) [ true ↦ any_refused setting (drop 1 backs) rules [] Nothing acts | false ↦ any_refused setting (drop 1 backs) next [] Nothing acts ])
     (λ none told. either-true (is_back backs) (any_refused setting (drop 1 backs) rules [] Nothing acts) (any_refused setting (drop 1 backs) next [] Nothing acts)
     (foretold-comes setting (drop 1 backs) rules [] Nothing acts
-    (subst (λ old. foretells setting.slots setting.mode old [] Nothing acts ≡ true) (ap (set_after rules) none ∙ set-after-none rules) told))
+    (subst (λ old. foretells setting old [] Nothing acts ≡ true) (ap (set_after rules) none ∙ set-after-none rules) told))
     (foretold-comes setting (drop 1 backs) next [] Nothing acts told)) e
 foretold-comes setting backs rules batch asked (Crash after ∷ acts) e =
     let next = set_after rules (settled_batch rules batch asked) in
-    judged-comes (settled_verdict setting.slots setting.mode rules batch asked) (foretells setting.slots setting.mode next [] Nothing acts) (any_refused setting backs next [] Nothing acts)
+    judged-comes (settled_verdict setting.slots setting.mode rules batch asked) (foretells setting next [] Nothing acts) (any_refused setting backs next [] Nothing acts)
     (foretold-comes setting backs next [] Nothing acts) e
 
 -- without trials nothing else comes
 pub foretold-alone : (setting : Setting) (backs : List Bool) (rules : List Rule) (batch : List Change) (asked : Requested) (acts : List Act) → AllByRecursion IsNoTrial acts
-    → foretells setting.slots setting.mode rules batch asked acts ≡ any_refused setting backs rules batch asked acts
+    → foretells setting rules batch asked acts ≡ any_refused setting backs rules batch asked acts
 foretold-alone setting backs rules batch asked [] none = refl
 foretold-alone setting backs rules batch asked (Command change ∷ acts) none = foretold-alone setting backs rules (batch_with batch asked change) (asked_with asked change) acts none.1
 foretold-alone setting backs rules batch asked (Ask request ∷ acts) none = foretold-alone setting backs rules (batch_behind batch asked) (asked_behind batch asked request) acts none.1
@@ -95,12 +96,12 @@ foretold-alone setting backs rules batch asked (Probe key ∷ acts) none = foret
 foretold-alone setting backs rules batch asked (Packet key ∷ acts) none = foretold-alone setting backs rules batch asked acts none.1
 foretold-alone setting backs rules batch asked (Commit ∷ acts) none =
     let next = set_after rules (settled_batch rules batch asked) in
-    judged-same (settled_verdict setting.slots setting.mode rules batch asked) (foretells setting.slots setting.mode next [] Nothing acts) (any_refused setting backs next [] Nothing acts)
+    judged-same (commit_verdict setting rules batch asked) (foretells setting next [] Nothing acts) (any_refused setting backs next [] Nothing acts)
     (foretold-alone setting backs next [] Nothing acts none.1)
 foretold-alone setting backs rules batch asked (Trial most ∷ acts) none = absurd none.0
 foretold-alone setting backs rules batch asked (Crash after ∷ acts) none =
     let next = set_after rules (settled_batch rules batch asked) in
-    judged-same (settled_verdict setting.slots setting.mode rules batch asked) (foretells setting.slots setting.mode next [] Nothing acts) (any_refused setting backs next [] Nothing acts)
+    judged-same (settled_verdict setting.slots setting.mode rules batch asked) (foretells setting next [] Nothing acts) (any_refused setting backs next [] Nothing acts)
     (foretold-alone setting backs next [] Nothing acts none.1)
 
 -- ---- the status that is decided
@@ -130,12 +131,12 @@ pub wrong-by-fault : (setting : Setting) (backs : List Bool) (script : Script) �
 wrong-by-fault setting backs script fault = fault-decided script.last (any_refused setting backs [] [] Nothing (acts_of script)) fault
 
 -- and so is a refusal that is foretold
-pub wrong-by-refusal : (setting : Setting) (backs : List Bool) (script : Script) → foretells setting.slots setting.mode [] [] Nothing (acts_of script) ≡ true → decided setting backs script ≢ Done
+pub wrong-by-refusal : (setting : Setting) (backs : List Bool) (script : Script) → foretells setting [] [] Nothing (acts_of script) ≡ true → decided setting backs script ≢ Done
 wrong-by-refusal setting backs script told =
     refused-decided script.last (any_refused setting backs [] [] Nothing (acts_of script)) (foretold-comes setting backs [] [] Nothing (acts_of script) told)
 
 -- a script without either, and without trials, is carried out whole
-pub right-decided : (setting : Setting) (backs : List Bool) (script : Script) → script.last ≡ Whole → foretells setting.slots setting.mode [] [] Nothing (acts_of script) ≡ false
+pub right-decided : (setting : Setting) (backs : List Bool) (script : Script) → script.last ≡ Whole → foretells setting [] [] Nothing (acts_of script) ≡ false
     → AllByRecursion IsNoTrial (acts_of script) → decided setting backs script ≡ Done
 right-decided setting backs script whole none trials =
     taken-decided script.last (any_refused setting backs [] [] Nothing (acts_of script)) whole (sym (foretold-alone setting backs [] [] Nothing (acts_of script) trials) ∙ none)

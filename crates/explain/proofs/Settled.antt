@@ -1,16 +1,19 @@
 -- What is pending is settled, and judged as it was.
-use Rattle.std.proofs.Common.{◌≡◌, ℕ, List, [], ◌∷◌, Result, OnOk, refl, ap, sym, ◌∙◌, subst}
+use Rattle.std.proofs.Common.{◌≡◌, ℕ, Bool, true, false, not, ◌&&◌, ◌==◌, length, Option, Some, None, List, [], ◌∷◌, Result, OnOk, refl, ap, sym, ◌∙◌, subst}
 use Rattle.rule_store.specs.declared.BatchFault.{BatchFault}
 use Rattle.rule_store.specs.declared.Command.{Command as Change}
-use Rattle.rule_store.specs.Batch.{IsSound}
-use Rattle.rule_store.specs.Verdict.{Verdict, Accepted, Unsound, OutOfBits, OutOfSlots, verdict}
+use Rattle.rule_store.specs.Batch.{IsSound, batch_fault}
+use Rattle.rule_store.specs.Verdict.{Verdict, Accepted, Unsound, OutOfBits, OutOfSlots, room_verdict, verdict, verdict_by}
 use Rattle.settled_changes.specs.declared.SettleFault.TheVariants.{Unsound as Unsettled}
 use Rattle.settled_changes.specs.declared.requested.Requested.{Requested}
 use Rattle.settled_changes.specs.declared.requested.Requested.TheVariants.{Nothing}
 use Rattle.settled_changes.specs.Requested.{IsAsked, IsWhyNone, TakesAsked, settled_batch}
 use Rattle.settled_changes.proofs.AskedFor.{none-asked, verdict-fault, verdict-taken}
+use Rattle.std.proofs.lemmas.Bool.{and_parts}
+use Rattle.removals_first.specs.Early.{early_batch, early_verdict, late_batch, spared_rules}
+use Rattle.replay.specs.Early.{goes_in_two, is_accepted, is_sound}
 use Rattle.explain.specs.Rounds.{Explained}
-use Rattle.explain.specs.Steps.{changes_of, committed, refused, settled_to, tried, verdict_in}
+use Rattle.explain.specs.Steps.{changes_of, commit_verdict_in, committed, refused, settled_to, tried, verdict_in}
 
 -- what is asked for came to a batch
 abbrev pub IsSettled : Explained → Explained → Type 0
@@ -97,3 +100,70 @@ next-trial result number next now after settled follows =
 -- strict commands alone wait then
 pub next-strict : (next now : Explained) → IsSettled now next → next.asked ≡ Nothing
 next-strict next now settled = ap (λ (n : Explained). n.asked) settled.0
+
+-- ---- in two parts
+
+and-false : (one : Bool) → (one && false) ≡ false
+and-false true = refl
+and-false false = refl
+
+-- what is judged of the two parts beside the verdict on the whole
+abbrev parts_fit : Explained → Bool
+parts_fit now =
+    let batch = changes_of now in
+    let early = spared_rules now.rules batch in
+    let slots = now.wanted.slots in
+    let mode = now.wanted.mode in
+    not (length early == 0)
+    && (not (length (late_batch early batch) == 0)
+    && (is_accepted (verdict slots mode now.rules (early_batch early)) && is_accepted (early_verdict slots mode now.rules early batch)))
+
+-- the verdict on a commit, by that on the whole
+abbrev picks : Explained → Verdict → Verdict
+picks now v = elim (now.wanted.parts && (is_sound v && parts_fit now)) [ true ↦ Accepted | false ↦ v ]
+
+-- a change is at fault: nothing is parted
+pub fault-commit-verdict : (now : Explained) (why : BatchFault) → verdict_in now ≡ Unsound why → commit_verdict_in now ≡ Unsound why
+fault-commit-verdict now why is =
+    ap (picks now) is ∙ ap (λ in_two. elim in_two [ true ↦ Accepted | false ↦ Unsound why ]) (and-false now.wanted.parts)
+
+-- what is settled is parted as it was
+pub settled-commit-verdict : (now next : Explained) → IsSettled now next → commit_verdict_in next ≡ commit_verdict_in now
+settled-commit-verdict now next settled = ap commit_verdict_in settled.0 ∙ ap (picks now) (sym (ap verdict_in settled.0) ∙ settled.1)
+
+pub next-parted : {T E : Type 0} (result : Result T E) (next now after : Explained) → IsSettled now next → OnOk result (after ≡ committed (commit_verdict_in next) next)
+    → OnOk result (after ≡ committed (commit_verdict_in now) now)
+next-parted result next now after settled follows =
+    subst (λ (e : Explained). OnOk result (after ≡ e))
+    (ap (λ (v : Verdict). committed v next) (settled-commit-verdict now next settled) ∙ ap (λ (n : Explained). committed (commit_verdict_in now) n) settled.0
+    ∙ settled-committed (commit_verdict_in now) now) follows
+
+pub fault-parted : {T E : Type 0} (result : Result T E) (why : BatchFault) (next now after : Explained) → next ≡ now → verdict_in now ≡ Unsound why
+    → OnOk result (after ≡ refused next) → OnOk result (after ≡ committed (commit_verdict_in now) now)
+fault-parted result why next now after same is follows =
+    subst (λ (v : Verdict). OnOk result (after ≡ committed v now)) (sym (fault-commit-verdict now why is)) (subst (λ (n : Explained). OnOk result (after ≡ refused n)) same follows)
+
+-- whether strict commands are parted
+abbrev pub is_parted : Explained → Bool
+is_parted now = now.wanted.parts && goes_in_two now.wanted.slots now.wanted.mode now.rules now.batch Nothing
+
+parted-is : (now : Explained) → now.asked ≡ Nothing → is_parted now ≡ now.wanted.parts && goes_in_two now.wanted.slots now.wanted.mode now.rules now.batch now.asked
+parted-is now strict = ap (λ (asked : Requested). now.wanted.parts && goes_in_two now.wanted.slots now.wanted.mode now.rules now.batch asked) (sym strict)
+
+-- they are: the commit is accepted, and the set takes them
+pub parted-accepted : (now : Explained) → now.asked ≡ Nothing → is_parted now ≡ true → commit_verdict_in now ≡ Accepted
+parted-accepted now strict is = ap (λ in_two. elim in_two [ true ↦ Accepted | false ↦ verdict_in now ]) (sym (parted-is now strict) ∙ is)
+
+sound-none : (fault : Option BatchFault) (room : Verdict) → is_sound (verdict_by fault room) ≡ true → fault ≡ None
+sound-none None room is = refl
+sound-none (Some fault) room is = absurd (let clash : false ≡ true = is in cc)
+
+pub parted-sound : (now : Explained) → is_parted now ≡ true → IsSound now.rules now.batch
+parted-sound now is =
+    let both = and_parts now.wanted.parts (goes_in_two now.wanted.slots now.wanted.mode now.rules now.batch Nothing) is in
+    sound-none (batch_fault now.rules now.batch) (room_verdict now.wanted.slots now.wanted.mode now.rules now.batch)
+    (and_parts (is_sound (verdict now.wanted.slots now.wanted.mode now.rules now.batch)) (parts_fit (record now { asked = Nothing })) both.1).0
+
+-- they aren't: the commit is judged as any
+pub parted-plainly : (now : Explained) → now.asked ≡ Nothing → is_parted now ≡ false → commit_verdict_in now ≡ verdict_in now
+parted-plainly now strict is = ap (λ in_two. elim in_two [ true ↦ Accepted | false ↦ verdict_in now ]) (sym (parted-is now strict) ∙ is)

@@ -27,7 +27,7 @@ use Rattle.explain.specs.declared.explainer.Foretold.{Foretold}
 use Rattle.explain.specs.declared.explainer.Foretold.TheVariants as foretold
 use Rattle.explain.specs.Explained.{foretells, is_refusal_foretold, judged_by, script_for, setting_for, tried_by}
 use Rattle.explain.specs.Rounds.{Explained, ForetellsBy, HasFault, IsFaultless, IsStandingBy, IsStanding}
-use Rattle.explain.specs.Steps.{behind_act, behind_room, changes_of, committed, faulted, judged, behind_line_by, behind_line, refused, tried, verdict_in}
+use Rattle.explain.specs.Steps.{behind_act, behind_room, changes_of, commit_verdict_in, committed, faulted, judged, behind_line_by, behind_line, refused, tried, verdict_in}
 
 -- ---- words
 
@@ -126,7 +126,7 @@ carried-counts by number (Ask request) now = ap (λ n. (n, now.probes)) (sym (mo
 carried-counts by number All now = refl
 carried-counts by number (Probe key) now = refl
 carried-counts by number (Packet key) now = refl
-carried-counts by number Commit now = judged-counts by now (committed (verdict_in now) now) (committed-counts (verdict_in now) now)
+carried-counts by number Commit now = judged-counts by now (committed (commit_verdict_in now) now) (committed-counts (commit_verdict_in now) now)
 carried-counts by number (Trial most) now = judged-counts by now (tried number (changes_of now) (verdict_in now) now) (tried-counts number (changes_of now) (verdict_in now) now)
 carried-counts by number (Crash after) now = judged-counts by now (committed (verdict_in now) now) (committed-counts (verdict_in now) now)
 
@@ -155,7 +155,7 @@ carried-wanted by number (Ask request) now = refl
 carried-wanted by number All now = refl
 carried-wanted by number (Probe key) now = refl
 carried-wanted by number (Packet key) now = refl
-carried-wanted by number Commit now = judged-wanted by now (committed (verdict_in now) now) (committed-wanted (verdict_in now) now)
+carried-wanted by number Commit now = judged-wanted by now (committed (commit_verdict_in now) now) (committed-wanted (commit_verdict_in now) now)
 carried-wanted by number (Trial most) now = judged-wanted by now (tried number (changes_of now) (verdict_in now) now) (tried-wanted number (changes_of now) (verdict_in now) now)
 carried-wanted by number (Crash after) now = judged-wanted by now (committed (verdict_in now) now) (committed-wanted (verdict_in now) now)
 
@@ -180,10 +180,10 @@ shift-acts : (acts : List (NumberedAct Act)) (number : ℕ) (act : Act) (more : 
 shift-acts acts number act more = ap (λ a. a ++ more) (sym (only-more acts number act)) ∙ append_assoc (acts_only acts) (act ∷ []) more
 
 abbrev foretold-from : Explained → List Act → Bool
-foretold-from now more = now.wrong || foretells now.wanted.slots now.wanted.mode now.rules now.batch now.asked more
+foretold-from now more = now.wrong || foretells (setting_for now.wanted) now.rules now.batch now.asked more
 
 committed-foretells : (v : Verdict) (now : Explained) (more : List Act)
-    → (now.wrong || judged_by v (foretells now.wanted.slots now.wanted.mode (set_after now.rules (changes_of now)) [] Nothing more)) ≡ foretold-from (committed v now) more
+    → (now.wrong || judged_by v (foretells (setting_for now.wanted) (set_after now.rules (changes_of now)) [] Nothing more)) ≡ foretold-from (committed v now) more
 committed-foretells Accepted now more = refl
 committed-foretells (Unsound fault) now more = or-true now.wrong
 committed-foretells (OutOfBits field needed free) now more = or-true now.wrong
@@ -217,7 +217,7 @@ module _ (bytes : List ℕ) (new : HeldBytes) (after : List ℕ) where
   -- a commit over a known set, by its verdict
   known-committed : (v : Verdict) (now : Explained) (acts : List (NumberedAct Act)) → now.foretold ≡ foretold.Known → IsRead (committed v now) acts
       → ((more : List Act) → is_refusal_foretold now.wanted (acts_only acts ++ more)
-      ≡ (now.wrong || judged_by v (foretells now.wanted.slots now.wanted.mode (set_after now.rules (changes_of now)) [] Nothing more)))
+      ≡ (now.wrong || judged_by v (foretells (setting_for now.wanted) (set_after now.rules (changes_of now)) [] Nothing more)))
       → IsStanding bytes new after (committed v now)
   known-committed v now acts is read tells =
       let next = committed v now in
@@ -229,7 +229,7 @@ module _ (bytes : List ℕ) (new : HeldBytes) (after : List ℕ) where
   -- and a trial, by its changes too
   known-tried : (number : ℕ) (changes : List Change) (v : Verdict) (now : Explained) (acts : List (NumberedAct Act)) → now.foretold ≡ foretold.Known → IsRead (tried number changes v now) acts
       → ((more : List Act) → is_refusal_foretold now.wanted (acts_only acts ++ more)
-      ≡ (now.wrong || tried_by changes v (foretells now.wanted.slots now.wanted.mode (set_after now.rules (changes_of now)) [] Nothing more)))
+      ≡ (now.wrong || tried_by changes v (foretells (setting_for now.wanted) (set_after now.rules (changes_of now)) [] Nothing more)))
       → IsStanding bytes new after (tried number changes v now)
   known-tried number [] v now acts is read tells = known-committed v now acts is read tells
   known-tried number (change ∷ changes) Accepted now acts is read tells =
@@ -247,7 +247,7 @@ module _ (bytes : List ℕ) (new : HeldBytes) (after : List ℕ) where
   known-carried number All now acts is read tells = known-stands (behind_room foretold.Known number All now) acts is read tells
   known-carried number (Probe key) now acts is read tells = known-stands (behind_room foretold.Known number (Probe key) now) acts is read tells
   known-carried number (Packet key) now acts is read tells = known-stands now acts is read tells
-  known-carried number Commit now acts is read tells = known-committed (verdict_in now) now acts is read tells
+  known-carried number Commit now acts is read tells = known-committed (commit_verdict_in now) now acts is read tells
   known-carried number (Trial most) now acts is read tells = known-tried number (changes_of now) (verdict_in now) now acts is read tells
   known-carried number (Crash limit) now acts is read tells = known-committed (verdict_in now) now acts is read tells
 

@@ -2,7 +2,6 @@
 use Rattle.std.specs.Prelude.{◌≡◌, ◌≢◌, ℕ, Bool, true, false, List, [], ◌∷◌}
 use Rattle.std.specs.List.{AllByRecursion}
 use Rattle.rule_model.specs.declared.Rule.{Rule}
-use Rattle.rule_store.specs.declared.Mode.{Mode}
 use Rattle.rule_store.specs.declared.Command.{Command as Change}
 use Rattle.rule_store.specs.Batch.{set_after}
 use Rattle.rule_store.specs.Verdict.{Verdict, Accepted, Unsound, OutOfBits, OutOfSlots}
@@ -15,6 +14,7 @@ use Rattle.script_runs.specs.declared.Status.TheVariants as status
 use Rattle.script_runs.specs.Script.{Whole, acts_of}
 use Rattle.replay.specs.declared.Act.{Act}
 use Rattle.replay.specs.declared.Act.TheVariants.{Command, Ask, All, Probe, Packet, Commit, Trial, Crash}
+use Rattle.replay.specs.Early.{commit_verdict}
 use Rattle.replay.specs.Effects.{Setting}
 use Rattle.replay.specs.Script.{Script, script_of}
 use Rattle.tcam_cli.specs.Headline.{decided}
@@ -24,7 +24,7 @@ use Rattle.explain.specs.declared.explainer.Wanted.{Wanted}
 -- a setting of a run that a script is explained for; where insertions aim and what is traced decides nothing here
 abbrev pub setting_for : Wanted → Setting
 setting_for wanted =
-    record { slots = wanted.slots; mode = wanted.mode; placement = Middle; family = wanted.family; trace = false; depth = 0; json = wanted.json; names = false }
+    record { slots = wanted.slots; mode = wanted.mode; placement = Middle; family = wanted.family; trace = false; depth = 0; json = wanted.json; names = false; parts = wanted.parts }
 
 -- the script that some bytes are to such a run
 abbrev pub script_for : Wanted → List ℕ → Script
@@ -44,25 +44,25 @@ tried_by [] v behind = judged_by v behind
 tried_by (change ∷ changes) v behind = judged_by v false
 
 -- Whether the rule lists alone foretell that a commit of the acts is refused: by the set before the acts, the batch that is
--- pending, and what is asked for beside it.
-abbrev pub foretells : ℕ → Mode → List Rule → List Change → Requested → List Act → Bool
-foretells slots mode rules batch asked [] = false
-foretells slots mode rules batch asked (Command change ∷ acts) = foretells slots mode rules (batch_with batch asked change) (asked_with asked change) acts
-foretells slots mode rules batch asked (Ask request ∷ acts) = foretells slots mode rules (batch_behind batch asked) (asked_behind batch asked request) acts
-foretells slots mode rules batch asked (All ∷ acts) = foretells slots mode rules [] (WholeSet []) acts
-foretells slots mode rules batch asked (Probe key ∷ acts) = foretells slots mode rules batch asked acts
-foretells slots mode rules batch asked (Packet key ∷ acts) = foretells slots mode rules batch asked acts
-foretells slots mode rules batch asked (Commit ∷ acts) =
-    judged_by (settled_verdict slots mode rules batch asked) (foretells slots mode (set_after rules (settled_batch rules batch asked)) [] Nothing acts)
-foretells slots mode rules batch asked (Trial most ∷ acts) =
-    tried_by (settled_batch rules batch asked) (settled_verdict slots mode rules batch asked)
-    (foretells slots mode (set_after rules (settled_batch rules batch asked)) [] Nothing acts)
-foretells slots mode rules batch asked (Crash after ∷ acts) =
-    judged_by (settled_verdict slots mode rules batch asked) (foretells slots mode (set_after rules (settled_batch rules batch asked)) [] Nothing acts)
+-- pending, and what is asked for beside it. A commit in two parts is judged by its rest.
+abbrev pub foretells : Setting → List Rule → List Change → Requested → List Act → Bool
+foretells setting rules batch asked [] = false
+foretells setting rules batch asked (Command change ∷ acts) = foretells setting rules (batch_with batch asked change) (asked_with asked change) acts
+foretells setting rules batch asked (Ask request ∷ acts) = foretells setting rules (batch_behind batch asked) (asked_behind batch asked request) acts
+foretells setting rules batch asked (All ∷ acts) = foretells setting rules [] (WholeSet []) acts
+foretells setting rules batch asked (Probe key ∷ acts) = foretells setting rules batch asked acts
+foretells setting rules batch asked (Packet key ∷ acts) = foretells setting rules batch asked acts
+foretells setting rules batch asked (Commit ∷ acts) =
+    judged_by (commit_verdict setting rules batch asked) (foretells setting (set_after rules (settled_batch rules batch asked)) [] Nothing acts)
+foretells setting rules batch asked (Trial most ∷ acts) =
+    tried_by (settled_batch rules batch asked) (settled_verdict setting.slots setting.mode rules batch asked)
+    (foretells setting (set_after rules (settled_batch rules batch asked)) [] Nothing acts)
+foretells setting rules batch asked (Crash after ∷ acts) =
+    judged_by (settled_verdict setting.slots setting.mode rules batch asked) (foretells setting (set_after rules (settled_batch rules batch asked)) [] Nothing acts)
 
 -- the same of a script from its first act on
 abbrev pub is_refusal_foretold : Wanted → List Act → Bool
-is_refusal_foretold wanted acts = foretells wanted.slots wanted.mode [] [] Nothing acts
+is_refusal_foretold wanted acts = foretells (setting_for wanted) [] [] Nothing acts
 
 -- an act that isn't a trial
 abbrev pub IsNoTrial : Act → Type 0

@@ -33,7 +33,7 @@ pub record Explained : Type 0 where
 -- nothing was; behind a trial nothing more.
 abbrev pub ForetellsBy : Foretold → Explained → List Act → Type 0
 ForetellsBy foretold.Known now acts =
-    (more : List Act) → is_refusal_foretold now.wanted (acts ++ more) ≡ (now.wrong || foretells now.wanted.slots now.wanted.mode now.rules now.batch now.asked more)
+    (more : List Act) → is_refusal_foretold now.wanted (acts ++ more) ≡ (now.wrong || foretells (setting_for now.wanted) now.rules now.batch now.asked more)
 ForetellsBy (foretold.BehindTrial line) now acts = (more : List Act) → is_refusal_foretold now.wanted (acts ++ more) ≡ now.wrong
 ForetellsBy (foretold.BehindFault line) now acts = ⊥
 

@@ -7,9 +7,11 @@ use Rattle.settled_changes.specs.declared.requested.Requested.TheVariants.{Nothi
 use Rattle.settled_changes.specs.Requested.{asked_behind, asked_with, batch_behind, batch_with, changes_in, settled_batch, settled_verdict}
 use Rattle.replay.specs.declared.Act.{Act}
 use Rattle.replay.specs.declared.Act.TheVariants.{Command, Ask, All, Probe, Packet, Commit, Trial, Crash}
+use Rattle.replay.specs.Early.{commit_verdict}
 use Rattle.replay.specs.Script.{limit_fault}
 use Rattle.explain.specs.declared.explainer.Foretold.{Foretold}
 use Rattle.explain.specs.declared.explainer.Foretold.TheVariants as foretold
+use Rattle.explain.specs.Explained.{setting_for}
 use Rattle.explain.specs.Rounds.{Explained}
 
 -- how far refusals are foretold behind a line at fault: the first one stays the first
@@ -69,6 +71,10 @@ judged by now after = if is_known by then after else record now { batch = []; as
 abbrev pub verdict_in : Explained → Verdict
 verdict_in now = settled_verdict now.wanted.slots now.wanted.mode now.rules now.batch now.asked
 
+-- and of a commit of it, which may be made in two parts
+abbrev pub commit_verdict_in : Explained → Verdict
+commit_verdict_in now = commit_verdict (setting_for now.wanted) now.rules now.batch now.asked
+
 -- behind an act for which there is room
 abbrev pub behind_room : Foretold → ℕ → Act → Explained → Explained
 behind_room by number (Command change) now = record now { batch = batch_with now.batch now.asked change; asked = asked_with now.asked change }
@@ -76,7 +82,7 @@ behind_room by number (Ask request) now = record now { batch = batch_behind now.
 behind_room by number All now = record now { batch = []; asked = Whole [] }
 behind_room by number (Probe key) now = record now { probes = now.probes + 1 }
 behind_room by number (Packet key) now = now
-behind_room by number Commit now = judged by now (committed (verdict_in now) now)
+behind_room by number Commit now = judged by now (committed (commit_verdict_in now) now)
 behind_room by number (Trial most) now = judged by now (tried number (changes_of now) (verdict_in now) now)
 behind_room by number (Crash after) now = judged by now (committed (verdict_in now) now)
 

@@ -24,13 +24,14 @@ use tcam_cli::{read_family_act, told_act};
 const PROBES: u32 = 16;
 
 /// What a script is explained for: of which family it is, how many slots are in use, 1 to 4,096, how port ranges are
-/// tested, and whether the report is in JSON.
+/// tested, whether the report is in JSON, and whether removals of commits go first where they may.
 #[derive(Clone, Copy, Debug, PartialEq, Eq)]
 pub struct Wanted {
     pub family: Family,
     pub slots: u32,
     pub mode: Mode,
     pub json: bool,
+    pub parts: bool,
 }
 
 /// How far the refusals of a script are foretold.
@@ -247,7 +248,8 @@ impl Explainer {
             Act::All => self.begin_whole(number, text),
             Act::Probe(_) => self.probe(number, text),
             Act::Packet(_) => Ok(()),
-            Act::Commit | Act::Crash(_) => self.commit(number, text),
+            Act::Commit => self.commit(number, text),
+            Act::Crash(_) => self.crash(number, text),
             Act::Trial(_) => self.try_commit(number, text),
         }
     }

@@ -1,16 +1,19 @@
 //! How what is pending is judged over a known set, and what is told of a refusal.
 
-ghost use Rattle.std.specs.Prelude.{◌≡◌, ◌≢◌, [], OnOk, length};
+ghost use Rattle.std.specs.Prelude.{◌≡◌, ◌≢◌, ◌&&◌, [], IfOk, OnOk, length};
 ghost use Rattle.rule_store.specs.Batch.{IsSound, set_after};
-ghost use Rattle.explain.specs.Steps.{changes_of, committed, judged, refused, tried, verdict_in};
+ghost use Rattle.replay.specs.Early.{goes_in_two};
+ghost use Rattle.explain.specs.Steps.{changes_of, commit_verdict_in, committed, judged, refused, tried, verdict_in};
 
 use crate::changes::{Seen, tell_changes};
 use crate::explainer::{Explainer, Foretold, is_known};
 use crate::room::{tell_bits, tell_slots};
 use readback::{Rejection, verdict};
+use replay::goes_in_two;
 use rule_model::Rank;
 use rule_store::{Batch, Command};
 use settled_changes::Requested;
+use slot_order::MOST_SLOTS;
 use std::alloc::AllocError;
 use std::collections::BTreeMap;
 
@@ -40,8 +43,20 @@ fn note(seen: &mut BTreeMap<Rank, Seen>, batch: &Batch, lines: &[u32]) -> Result
 }
 
 impl Explainer {
-    /// A commit or a crash: over a known set what is pending is judged, and else it goes.
+    /// A commit: over a known set what is pending is judged, where removals go first by the rest that is left then, and else
+    /// it goes.
     pub(crate) fn commit(&mut self, number: u32, text: &mut String) -> Result<(), AllocError>
+        ensures { OnOk result (self.new ≡ judged self.old.foretold self.old (committed (commit_verdict_in self.old) self.old)) }
+    {
+        if is_known(self.foretold) {
+            return self.judge_commit(number, text);
+        }
+        self.pass();
+        Ok(())
+    }
+
+    /// A crash: over a known set what is pending is judged, and else it goes.
+    pub(crate) fn crash(&mut self, number: u32, text: &mut String) -> Result<(), AllocError>
         ensures { OnOk result (self.new ≡ judged self.old.foretold self.old (committed (verdict_in self.old) self.old)) }
     {
         if is_known(self.foretold) {
@@ -71,6 +86,49 @@ impl Explainer {
             Ok(None) => self.judge_batch(number, text),
             Err(AllocError) => Err(AllocError),
         }
+    }
+
+    /// Judges what is pending at a commit over a known set.
+    fn judge_commit(&mut self, number: u32, text: &mut String) -> Result<(), AllocError>
+        ensures { OnOk result (self.new ≡ committed (commit_verdict_in self.old) self.old) }
+    {
+        match self.settle() {
+            Ok(Some(fault)) => self.refuse(number, &Rejection::Unsound(fault), text),
+            Ok(None) => self.judge_parts(number, text),
+            Err(AllocError) => Err(AllocError),
+        }
+    }
+
+    /// Judges the commands of a commit over a known set, which are carried out where they are made in two parts.
+    fn judge_parts(&mut self, number: u32, text: &mut String) -> Result<(), AllocError>
+        requires { self.old.asked ≡ Requested.Nothing }
+        ensures { OnOk result (self.new ≡ committed (commit_verdict_in self.old) self.old) }
+    {
+        match self.is_parted() {
+            Ok(true) => self.apply(),
+            Ok(false) => self.judge_batch(number, text),
+            Err(AllocError) => Err(AllocError),
+        }
+    }
+
+    /// Whether strict commands are committed in two parts. Of a set of more rules than a table has slots want of memory is
+    /// told.
+    fn is_parted(&self) -> Result<bool, AllocError>
+        ensures { IfOk result (λ in_two. in_two ≡ self.now.wanted.parts && goes_in_two self.now.wanted.slots self.now.wanted.mode self.now.rules self.now.batch Requested.Nothing) }
+    {
+        if !self.wanted.parts {
+            return Ok(false);
+        }
+        if self.rules.len() > MOST_SLOTS {
+            return Err(AllocError);
+        }
+        goes_in_two(
+            self.alloc,
+            &self.rules,
+            &self.batch,
+            self.wanted.slots,
+            self.wanted.mode,
+        )
     }
 
     /// Judges what is pending at a trial over a known set.

@@ -26,6 +26,9 @@
 //!   refusal that rests on it would be a guess. The faults of lines are told to the end of the script.
 //! - **Behind a trial with changes no refusal is foretold either**, since how many writes it makes decides whether it is
 //!   taken back, and no rule list tells that. One of no changes leaves the set as it is.
+//! - **A commit of which removals go first is judged as a run judges it** (`Wanted.parts`): where it is made in two parts by
+//!   the rest, over the set that the removals leave (`commit_verdict` of `replay`). Where it has no room even so, what is told
+//!   is told of the whole.
 //! - **What `put`, `drop` and `all` come to is reckoned as at a commit** (`settled_changes`), and is from then on as strict
 //!   commands, each with the line of the last change that names its rule, or else that of `all`.
 //! - **Of a refused batch each change is told that the set doesn't take**, where a commit's line names the first: who has

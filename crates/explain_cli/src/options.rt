@@ -25,6 +25,7 @@ pub(crate) enum Name {
     Placement,
     Trace,
     Names,
+    Removals,
     Depth,
     Json,
     Commit,
@@ -37,7 +38,7 @@ pub(crate) enum Name {
 }
 
 /// How many options there are.
-pub(crate) const NAMES: usize = 14;
+pub(crate) const NAMES: usize = 15;
 
 /// The command that a word names.
 pub(crate) fn subcommand_named(word: &str) -> Option<Subcommand> {
@@ -62,6 +63,7 @@ pub(crate) fn option_named(word: &str) -> Option<Name> {
         "--placement" => Some(Name::Placement),
         "--trace" => Some(Name::Trace),
         "--names" => Some(Name::Names),
+        "--removals" => Some(Name::Removals),
         "--depth" => Some(Name::Depth),
         "--json" => Some(Name::Json),
         "--commit" => Some(Name::Commit),
@@ -91,7 +93,7 @@ pub(crate) fn has_option(subcommand: Subcommand, name: Name) -> bool {
             subcommand,
             Subcommand::Route | Subcommand::Acl | Subcommand::Router
         ),
-        Name::Names | Name::Depth | Name::Json => {
+        Name::Names | Name::Removals | Name::Depth | Name::Json => {
             matches!(subcommand, Subcommand::Route | Subcommand::Acl)
         }
         Name::Commit | Name::Commits | Name::Occupancy => subcommand == Subcommand::Draw,
@@ -103,8 +105,10 @@ pub(crate) fn has_option(subcommand: Subcommand, name: Name) -> bool {
 /// The options of a command, as a sentence has them.
 pub(crate) fn options_text(subcommand: Subcommand) -> &'static str {
     match subcommand {
-        Subcommand::Route => "--slots, --placement, --trace, --names, --depth and --json",
-        Subcommand::Acl => "--slots, --ranges, --placement, --trace, --names, --depth and --json",
+        Subcommand::Route =>
+            "--slots, --placement, --removals, --trace, --names, --depth and --json",
+        Subcommand::Acl =>
+            "--slots, --ranges, --placement, --removals, --trace, --names, --depth and --json",
         Subcommand::Router => "--slots, --ranges, --placement and --trace",
         Subcommand::Gen => "--slots, --ranges and --placement",
         Subcommand::Verify => "no option",
@@ -120,6 +124,7 @@ pub(crate) fn values_text(name: Name) -> Option<&'static str> {
         Name::Slots => Some("1 to 4096"),
         Name::Ranges => Some("cover or bits"),
         Name::Placement => Some("middle, rank or ends"),
+        Name::Removals => Some("first or last"),
         Name::Depth => Some("0 to 15"),
         Name::Commit => Some("a number from 1"),
         Name::Commits => Some("two numbers from 1, as 2-5"),
@@ -140,6 +145,7 @@ pub(crate) fn is_value(name: Name, value: &str) -> bool {
         Name::Slots => number_of(value, 1, 4096).is_some(),
         Name::Ranges => mode_named(value).is_some(),
         Name::Placement => placement_of(value).is_some(),
+        Name::Removals => matches!(value, "first" | "last"),
         Name::Depth => number_of(value, 0, 15).is_some(),
         Name::Commit => is_commit(value),
         Name::Commits => are_commits(value),
@@ -188,7 +194,8 @@ pub(crate) fn place_of(name: Name) -> usize
         Name::Version => 10,
         Name::LeaveOut => 11,
         Name::Names => 12,
-        Name::Results => 13,
+        Name::Removals => 13,
+        Name::Results => 14,
     }
 }
 
@@ -200,6 +207,7 @@ pub(crate) fn option_like(word: &str) -> Option<&'static str> {
         "--place" | "--placements" | "-p" => Some("--placement"),
         "--traces" | "--verbose" | "-v" | "-t" => Some("--trace"),
         "--name" | "--named" | "-n" => Some("--names"),
+        "--removal" | "--remove" => Some("--removals"),
         "--depths" | "-d" => Some("--depth"),
         "--JSON" | "-j" => Some("--json"),
         "-help" | "-?" => Some("--help"),

@@ -188,12 +188,14 @@ fn kind_asked(asked: Asked) -> Words
             slots,
             mode,
             json,
+            parts,
             ..
         } => Words::Script(Wanted {
             family,
             slots,
             mode,
             json,
+            parts,
         }),
         Asked::Made { .. } => Words::Other,
         Asked::Verify => Words::Other,

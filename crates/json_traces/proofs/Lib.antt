@@ -3,10 +3,12 @@ pub mod TraceWords
 pub mod TraceRules
 pub mod EventsWithin
 pub mod SettledTold
+pub mod PartsTold
 pub mod Standing
 pub mod Texts
 pub mod Through
 pub mod Runs
+pub mod FewCommits
 pub mod Whole
 pub mod Fitting
 pub mod Told

@@ -8,7 +8,8 @@ use Rattle.trace_check.specs.Answers.{Yes, IsTraceAnswer}
 use Rattle.replay.specs.Effects.{Setting, Effect, Prints, events_in, journal_of, printed}
 use Rattle.replay.specs.Reports.{fault_told}
 use Rattle.report_lines.specs.Text.{family_version}
-use Rattle.replay.specs.Run.{Progress, Runs, ending, start}
+use Rattle.replay.specs.Run.{Progress, ending, start}
+use Rattle.tcam_cli.specs.InTwo.{RunsBy}
 use Rattle.script_runs.specs.Script.{ScriptEnd, Whole, FaultAt, acts_of}
 use Rattle.replay.specs.Script.{Script, script_of}
 use Rattle.replay.proofs.lines.Effects.{events-append, printed-append}
@@ -18,7 +19,7 @@ use Rattle.tcam_cli.specs.Readings.{reading_by}
 use Rattle.json_traces.specs.Traces.{AreTraceActs, WantsTrace, accepted_in}
 use Rattle.json_traces.specs.Promised.{IsReported, JsonReportsGetYes}
 use Rattle.json_traces.proofs.FaultTexts.{batch_plain, byte_plain, changes_plain, none_plain, probes_plain, reading_plain}
-use Rattle.json_traces.proofs.Runs.{few_commits}
+use Rattle.json_traces.proofs.FewCommits.{few_commits}
 use Rattle.json_traces.proofs.ScriptLines.{reads_traces}
 use Rattle.json_traces.proofs.Scripts.{EndsPlainly, acts_told, ends_plainly, act_count, few_lines}
 use Rattle.json_traces.proofs.Told.{reports_get_yes}
@@ -45,7 +46,7 @@ module _ (setting : Setting) (device_slots : ℕ) (wants : WantsTrace setting de
       ends_plainly (reading_by setting) (reading_plain setting wants.json) batch_plain changes_plain probes_plain (lines_of bytes).last (byte_plain (lines_of bytes).last few.last) (lines_of bytes).lines few.numbered 0 0
 
   -- the commits are no more than the lines
-  commits_few : (body : List Effect) (last : Progress) → Runs setting device_slots (acts_of script) body last → last.commits < 2 ^ 32
+  commits_few : (body : List Effect) (last : Progress) → RunsBy setting device_slots (acts_of script) body last → last.commits < 2 ^ 32
   commits_few body last run =
       let lines = (few_lines bytes).count in
       let acts = act_count (reading_by setting) (lines_of bytes).lines (lines_of bytes).last 0 0 in
@@ -53,7 +54,7 @@ module _ (setting : Setting) (device_slots : ℕ) (wants : WantsTrace setting de
       omega arith
 
   -- with the line of its end
-  closed : (body : List Effect) (last : Progress) (end : ScriptEnd) → EndsPlainly end → Runs setting device_slots (acts_of script) body last → length (journal_of body) < 2 ^ 64
+  closed : (body : List Effect) (last : Progress) (end : ScriptEnd) → EndsPlainly end → RunsBy setting device_slots (acts_of script) body last → length (journal_of body) < 2 ^ 64
       → GetsYes commits (printed body ++ closing_line setting last end) (journal_of body)
   closed body last Whole ends run few =
       reports_get_yes [] (printed body ++ ending setting last) commits (journal_of body)

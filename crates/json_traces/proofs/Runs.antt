@@ -1,10 +1,11 @@
 -- What acts print in JSON that are all carried out are the commits of an orderly trace.
-use Rattle.std.proofs.Common.{◌≡◌, ℕ, suc, ◌+◌, ◌^◌, ◌<◌, ◌≤◌, List, [], ◌∷◌, ◌++◌, length, map, None, refl, sym, ap, ap₂, ◌∙◌, subst, arith, append_assoc, append-nil, length-append}
+use Rattle.std.proofs.Common.{◌≡◌, Bool, true, false, ℕ, suc, ◌+◌, ◌^◌, ◌<◌, ◌≤◌, List, [], ◌∷◌, ◌++◌, length, map, None, refl, sym, ap, ap₂, ◌∙◌, subst, arith, append_assoc, append-nil, length-append}
 use Rattle.std.proofs.lemmas.Grind.{flat_map-append}
 use Rattle.std.specs.List.{AllByRecursion}
 use Rattle.slot_order.specs.Order.{most_slots}
 use Rattle.slot_order.proofs.Lists.{all_append}
 use Rattle.rule_model.specs.declared.IpVersion.{IpVersion}
+use Rattle.rule_model.specs.declared.Rule.{Rule}
 use Rattle.rule_store.specs.declared.Command.{Command as Change}
 use Rattle.rule_store.specs.Batch.{most_commands, set_after}
 use Rattle.rule_store.specs.Verdict.{Verdict, Accepted, Unsound, OutOfBits, OutOfSlots, verdict}
@@ -32,23 +33,24 @@ use Rattle.replay.specs.Effects.{Setting, Effect, Prints, journal_of, printed}
 use Rattle.replay.specs.JsonLines.{behind, change_line, shared_line}
 use Rattle.report_lines.specs.Text.{family_version}
 use Rattle.replay.specs.Reports.{head_due, refusal_line}
-use Rattle.settled_changes.specs.declared.Request.{Request}
-use Rattle.settled_changes.specs.declared.Request.TheVariants.{Strict}
 use Rattle.settled_changes.specs.declared.requested.Requested.{Requested}
-use Rattle.settled_changes.specs.declared.requested.Requested.TheVariants.{Nothing, Changes, Whole}
-use Rattle.settled_changes.specs.Requested.{asked_behind, asked_with, batch_behind, batch_with, changes_in, strict_form}
-use Rattle.replay.specs.Run.{Progress, Commits, Refuses, Judged, Run, actions_for, after_refusal, after_segment, carried, pending_verdict, settled_at}
+use Rattle.settled_changes.specs.declared.requested.Requested.TheVariants.{Nothing, Whole}
+use Rattle.settled_changes.specs.Requested.{asked_behind, asked_with, batch_behind, batch_with, changes_in}
+use Rattle.replay.specs.Early.{at_first, at_rest, parts_at}
+use Rattle.tcam_cli.specs.InTwo.{CommitsBy, RunBy, StepsInTwo}
+use Rattle.tcam_cli.proofs.PartedWrites.{accepted-first, accepted-rest, both-commit, leads-whole}
+use Rattle.tcam_cli.proofs.TwoParts.{parts-true}
+use Rattle.replay.specs.Run.{Progress, Commits, Refuses, Judged, actions_for, after_refusal, after_segment, carried, pending_verdict, settled_at}
 use Rattle.tcam_cli.proofs.OneMore.{more-behind, more-with}
 use Rattle.replay.proofs.lines.Effects.{printed-append, written-append}
 use Rattle.replay.proofs.lines.Written.{written-segment}
 use Rattle.tcam_cli.specs.AllTheWay.{Led, Stands, sets_through}
-use Rattle.json_traces.specs.Traces.{trace_text, AreTraceActs}
+use Rattle.json_traces.specs.Traces.{trace_text, AreTraceActs, parted_through}
 use Rattle.json_traces.proofs.EventsWithin.{TableFits, segment_tables, events_within}
 use Rattle.json_traces.proofs.TraceRules.{IsTraceChange, known_ranked}
 use Rattle.json_traces.proofs.Narrowed.{segments_on_devices}
-use Rattle.settled_changes.proofs.AskedFor.{forms-strict}
-use Rattle.json_traces.proofs.SettledTold.{forms_more, forms_of}
-use Rattle.json_traces.proofs.Standing.{StandsIn, StandsWith, accepted_settled, may_begin, stands_behind, stands_settled}
+use Rattle.json_traces.proofs.SettledTold.{behind_told, with_told}
+use Rattle.json_traces.proofs.Standing.{StandsIn, StandsWith, accepted_settled, may_begin, stands_behind, stands_first_part, stands_rest, stands_settled}
 use Rattle.json_traces.proofs.Texts.{in_json, behind_append, none_due, of_commit, of_refusal}
 use Rattle.json_traces.proofs.Through.{traced_through, keeps_append, through_append, keeps_commands, through_commands, are_commands, command_count, are_events, with_made, through_events, writes-append, command_writes, event_writes, done_count, done-append, done-commit}
 
@@ -79,8 +81,8 @@ module _ (asked : Setting) (device_slots : ℕ) (few : asked.slots ≤ most_slot
   abbrev setting : Setting
   setting = in_json asked
 
-  -- what some acts of a run print, as commits of a trace, by what stands before them and the sets that they lead through
-  pub record GoesFrom (commits writes : ℕ) (known : Tracing) (sets : List Led) (effects : List Effect) (new : Progress) : Type 0 where
+  -- what some acts of a run print, as commits of a trace, by what stands before them and how many are accepted, and one
+  pub record GoesFrom (commits writes : ℕ) (known : Tracing) (count : ℕ) (effects : List Effect) (new : Progress) : Type 0 where
     pub parts : List Part
     pub are : AllByRecursion (IsPart setting.slots) parts
     pub text : (more : List ℕ) → printed effects ++ behind (head_due setting new.commits) more
@@ -90,13 +92,17 @@ module _ (asked : Setting) (device_slots : ℕ) (few : asked.slots ≤ most_slot
     pub last_rest : Tracing
     pub comes : traced_through known (parts_lines (commits + 1) parts) ≡ standing setting new last_state last_rest
     pub made : trace_writes (parts_lines (commits + 1) parts) ≡ journal_of effects
-    pub accepted : length sets ≡ suc (done_count (parts_lines (commits + 1) parts))
+    pub accepted : count ≡ suc (done_count (parts_lines (commits + 1) parts))
     pub further : commits ≤ new.commits
     pub counts : new.writes ≡ writes + length (journal_of effects)
     pub within : new.commits < 2 ^ 32 → AllByRecursion (IsTraceLineOf (family_version setting.family)) (parts_lines (commits + 1) parts)
 
+  -- the sets that acts lead through, and their commits in two parts
+  abbrev pub count_of : List Rule → List Change → Requested → List Act → ℕ
+  count_of rules batch asked acts = length (sets_through setting [] rules batch asked acts) + parted_through setting rules batch asked acts
+
   abbrev pub ActsGo : List Act → Progress → State → Tracing → List Effect → Progress → Type 0
-  ActsGo acts old state rest effects new = GoesFrom old.commits old.writes (standing setting old state rest) (sets_through setting [] old.rules old.batch old.asked acts) effects new
+  ActsGo acts old state rest effects new = GoesFrom old.commits old.writes (standing setting old state rest) (count_of old.rules old.batch old.asked acts) effects new
 
   -- no act
   none : (old : Progress) (state : State) (rest : Tracing) → ActsGo [] old state rest [] old
@@ -126,10 +132,10 @@ module _ (asked : Setting) (device_slots : ℕ) (few : asked.slots ≤ most_slot
     counts : mid.writes ≡ old.writes + length (journal_of front)
     within : old.commits + 1 < 2 ^ 32 → AllByRecursion (IsTraceLineOf (family_version setting.family)) (part_lines (old.commits + 1) part)
 
-  -- a trace of what is settled goes on from where the run stood before that
-  of_settled : (part : Part) (old : Progress) (state : State) (rest : Tracing) (front : List Effect) (mid : Progress) (mid_state : State) (mid_rest : Tracing)
-      → OneGoes part (settled_at old) state rest front mid mid_state mid_rest → OneGoes part old state rest front mid mid_state mid_rest
-  of_settled part old state rest front mid mid_state mid_rest one = record {
+  -- a trace of what is pending there, as what is settled or a part of it, goes on from where the run stood before that
+  of_same : (part : Part) (old : Progress) (batch : List Change) (asked_for : Requested) (early : Bool) (state : State) (rest : Tracing) (front : List Effect) (mid : Progress) (mid_state : State) (mid_rest : Tracing)
+      → OneGoes part (record old { batch = batch; asked = asked_for; early = early }) state rest front mid mid_state mid_rest → OneGoes part old state rest front mid mid_state mid_rest
+  of_same part old batch asked_for early state rest front mid mid_state mid_rest one = record {
     is = one.is;
     counted = one.counted;
     text = one.text;
@@ -143,12 +149,13 @@ module _ (asked : Setting) (device_slots : ℕ) (few : asked.slots ≤ most_slot
   -- the sets that acts lead through are one more where the first of them is a commit that finishes
   abbrev LeadsOn : Progress → Act → Progress → List Act → Part → Type 0
   LeadsOn old act mid acts part =
-      length (sets_through setting [] old.rules old.batch old.asked (act ∷ acts)) ≡ done_count (part_lines (old.commits + 1) part) + length (sets_through setting [] mid.rules mid.batch mid.asked acts)
+      count_of old.rules old.batch old.asked (act ∷ acts) ≡ done_count (part_lines (old.commits + 1) part) + count_of mid.rules mid.batch mid.asked acts
 
-  -- and those behind it
-  one_more : (old : Progress) (state : State) (rest : Tracing) (front : List Effect) (mid : Progress) (mid_state : State) (mid_rest : Tracing) (back : List Effect) (new : Progress) (act : Act) (acts : List Act) (part : Part)
-      → OneGoes part old state rest front mid mid_state mid_rest → LeadsOn old act mid acts part → ActsGo acts mid mid_state mid_rest back new → ActsGo (act ∷ acts) old state rest (front ++ back) new
-  one_more old state rest front mid mid_state mid_rest back new act acts part one led later =
+  -- a commit of a trace, and those behind it
+  one_further : (old : Progress) (state : State) (rest : Tracing) (front : List Effect) (mid : Progress) (mid_state : State) (mid_rest : Tracing) (back : List Effect) (new : Progress) (part : Part) (count more_count : ℕ)
+      → OneGoes part old state rest front mid mid_state mid_rest → count ≡ done_count (part_lines (old.commits + 1) part) + more_count
+      → GoesFrom mid.commits mid.writes (standing setting mid mid_state mid_rest) more_count back new → GoesFrom old.commits old.writes (standing setting old state rest) count (front ++ back) new
+  one_further old state rest front mid mid_state mid_rest back new part count more_count one led later =
       let n = old.commits + 1 in
       let here = part_lines n part in
       let there = parts_lines (n + 1) later.parts in
@@ -185,6 +192,12 @@ module _ (asked : Setting) (device_slots : ℕ) (few : asked.slots ≤ most_slot
             let more = later.further in
             all_append (IsTraceLineOf (family_version setting.family)) here there (one.within (omega arith)) (subst (λ m. AllByRecursion (IsTraceLineOf (family_version setting.family)) (parts_lines m later.parts)) same (later.within small));
       }
+
+  -- and those behind it
+  one_more : (old : Progress) (state : State) (rest : Tracing) (front : List Effect) (mid : Progress) (mid_state : State) (mid_rest : Tracing) (back : List Effect) (new : Progress) (act : Act) (acts : List Act) (part : Part)
+      → OneGoes part old state rest front mid mid_state mid_rest → LeadsOn old act mid acts part → ActsGo acts mid mid_state mid_rest back new → ActsGo (act ∷ acts) old state rest (front ++ back) new
+  one_more old state rest front mid mid_state mid_rest back new act acts part one led later =
+      one_further old state rest front mid mid_state mid_rest back new part (count_of old.rules old.batch old.asked (act ∷ acts)) (count_of mid.rules mid.batch mid.asked acts) one led later
 
   -- ---- an accepted commit
 
@@ -290,6 +303,41 @@ module _ (asked : Setting) (device_slots : ℕ) (few : asked.slots ≤ most_slot
   abbrev sets_by : List Act → Progress → Verdict → List Led
   sets_by acts old is = elim is [ Accepted ↦ Stands old.rules ∷ sets_through setting [] (set_after old.rules old.batch) [] Nothing acts | _ ↦ sets_through setting [] old.rules [] Nothing acts ]
 
+  -- and how many commits are accepted, of one in one part,
+  abbrev counted_by : List Act → Progress → Verdict → ℕ
+  counted_by acts old is =
+      length (sets_by acts old is)
+      + (elim is [ Accepted ↦ parted_through setting (set_after old.rules old.batch) [] Nothing acts | _ ↦ parted_through setting old.rules [] Nothing acts ])
+
+  -- or in two
+  abbrev committed_by : List Act → Progress → Bool → Verdict → ℕ
+  committed_by acts old in_two is =
+      elim in_two [ true ↦ suc (suc (count_of (set_after old.rules old.batch) [] Nothing acts)) | false ↦ counted_by acts old is ]
+
+  count-is : (acts : List Act) (pending : Progress) (in_two : Bool) → parts_at setting pending ≡ in_two
+      → count_of pending.rules pending.batch pending.asked (Commit ∷ acts) ≡ committed_by acts (settled_at pending) in_two (pending_verdict setting pending)
+  count-is acts pending in_two is = ap (counts acts pending) is ∙ by in_two
+    where
+      counts : List Act → Progress → Bool → ℕ
+      counts acts pending in_two =
+          length (sets_by acts (settled_at pending) (elim in_two [ true ↦ Accepted | false ↦ pending_verdict setting pending ]))
+          + (elim in_two [
+            | true ↦ suc (parted_through setting (set_after pending.rules (settled_at pending).batch) [] Nothing acts)
+            | false ↦
+                elim (pending_verdict setting pending) [
+                  | Accepted ↦ parted_through setting (set_after pending.rules (settled_at pending).batch) [] Nothing acts
+                  | _ ↦ parted_through setting pending.rules [] Nothing acts
+                ]
+          ])
+
+      by : (in_two : Bool) → counts acts pending in_two ≡ committed_by acts (settled_at pending) in_two (pending_verdict setting pending)
+      by false = refl
+      by true =
+          let sets = length (sets_through setting [] (set_after pending.rules (settled_at pending).batch) [] Nothing acts) in
+          let parted = parted_through setting (set_after pending.rules (settled_at pending).batch) [] Nothing acts in
+          let same : suc sets + suc parted ≡ suc (suc (sets + parted)) = omega arith in
+          same
+
   module _ (acts : List Act) (pending : Progress) (state : State) (rest : Tracing) (front : List Effect) (mid : Progress) (back : List Effect) (new : Progress)
       (stands : StandsWith setting device_slots pending state) (later : Later acts mid back new) where
     -- where it stands once what is pending is settled
@@ -299,28 +347,28 @@ module _ (asked : Setting) (device_slots : ℕ) (few : asked.slots ≤ most_slot
     abbrev Goes : Type 0
     Goes = ActsGo (Commit ∷ acts) pending state rest (front ++ back) new
 
-    refusal_led : (is : Verdict) → sets_by acts old is ≡ sets_through setting [] old.rules [] Nothing acts → pending_verdict setting pending ≡ is → LeadsOn pending Commit (after_refusal old) acts Refusal
-    refusal_led is none same =
-        let by : length (sets_through setting [] pending.rules pending.batch pending.asked (Commit ∷ acts)) ≡ length (sets_through setting [] old.rules [] Nothing acts) =
-        ap (λ (v : Verdict). length (sets_by acts old v)) same ∙ ap (λ (sets : List Led). length sets) none in
-        let more : length (sets_through setting [] old.rules [] Nothing acts) ≡ 0 + length (sets_through setting [] old.rules [] Nothing acts) = omega arith in
+    refusal_led : (is : Verdict) → parts_at setting pending ≡ false → counted_by acts old is ≡ count_of old.rules [] Nothing acts → pending_verdict setting pending ≡ is → LeadsOn pending Commit (after_refusal old) acts Refusal
+    refusal_led is one none same =
+        let by : count_of pending.rules pending.batch pending.asked (Commit ∷ acts) ≡ count_of old.rules [] Nothing acts = count-is acts pending false one ∙ ap (counted_by acts old) same ∙ none in
+        let more : count_of old.rules [] Nothing acts ≡ 0 + count_of old.rules [] Nothing acts = omega arith in
         by ∙ more
 
-    accepted_goes : pending_verdict setting pending ≡ Accepted → Commits setting old front mid → Goes
-    accepted_goes judged commits =
+    accepted_goes : parts_at setting pending ≡ false → pending_verdict setting pending ≡ Accepted → Commits setting old front mid → Goes
+    accepted_goes alone judged commits =
         let settled_stands = stands_settled setting device_slots pending state few stands judged in
         let accepted : verdict setting.slots setting.mode old.rules old.batch ≡ Accepted = accepted_settled setting pending stands.at_rest.is_set stands.at_rest.right few pending.asked judged in
         let mid_state = state_after state commits.made in
         let known = ended old state rest settled_stands accepted commits.made commits.segment commits.in_use in
         let mid_rest : Tracing = record known { accepted = known.accepted + 1 } in
         let actions = actions_for setting old commits.made in
-        let next = length (sets_through setting [] (set_after old.rules old.batch) [] Nothing acts) in
-        let by : length (sets_through setting [] pending.rules pending.batch pending.asked (Commit ∷ acts)) ≡ suc next = ap (λ (is : Verdict). length (sets_by acts old is)) judged in
+        let sets = length (sets_through setting [] (set_after old.rules old.batch) [] Nothing acts) in
+        let parted = parted_through setting (set_after old.rules old.batch) [] Nothing acts in
+        let by : count_of pending.rules pending.batch pending.asked (Commit ∷ acts) ≡ suc sets + parted = count-is acts pending false alone ∙ ap (counted_by acts old) judged in
         let one : done_count (part_lines (old.commits + 1) (Work (map change_line old.batch) (map action_line actions))) ≡ 1 = done-commit old.batch actions (old.commits + 1) in
         let led : LeadsOn pending Commit (after_segment setting old commits.made) acts (Work (map change_line old.batch) (map action_line actions)) = omega arith in
         subst (λ (some : List Effect). ActsGo (Commit ∷ acts) pending state rest (some ++ back) new) (sym commits.effects_are)
         (one_more pending state rest (carried setting old (actions_for setting old commits.made) ++ Prints (shared_line [] (line.Done (old.commits + 1))) ∷ []) (after_segment setting old commits.made) mid_state mid_rest back new Commit acts (Work (map change_line old.batch) (map action_line actions))
-        (of_settled _ pending state rest _ _ _ _ (commit_goes old state rest settled_stands accepted commits.made commits.segment commits.in_use)) led
+        (of_same _ pending old.batch old.asked old.early state rest _ _ _ _ (commit_goes old state rest settled_stands accepted commits.made commits.segment commits.in_use)) led
         (subst (λ p. Later acts p back new) commits.after later mid_state mid_rest (stands_behind setting device_slots old state commits.made settled_stands accepted commits.segment commits.in_use refl)))
 
     refused_goes : (reason : Verdict) → LeadsOn pending Commit (after_refusal old) acts Refusal → Refuses setting old reason front mid → Goes
@@ -341,11 +389,50 @@ module _ (asked : Setting) (device_slots : ℕ) (few : asked.slots ≤ most_slot
         (subst (λ p. Later acts p back new) refuses.1 later state rest
         (record { at = stands.at; size = stands.size; at_rest = stands.at_rest; unused = stands.unused; rules_told = stands.rules_told; told = tt; asks_told = tt; short = omega arith })))
 
-    judged_goes : (is : Verdict) → pending_verdict setting pending ≡ is → Judged Commits setting old is front mid → Goes
-    judged_goes Accepted same step = accepted_goes same step
-    judged_goes (Unsound why) same step = refused_goes (Unsound why) (refusal_led (Unsound why) refl same) step
-    judged_goes (OutOfBits field needed free) same step = refused_goes (OutOfBits field needed free) (refusal_led (OutOfBits field needed free) refl same) step
-    judged_goes (OutOfSlots needed free) same step = refused_goes (OutOfSlots needed free) (refusal_led (OutOfSlots needed free) refl same) step
+    judged_goes : (is : Verdict) → parts_at setting pending ≡ false → pending_verdict setting pending ≡ is → Judged Commits setting old is front mid → Goes
+    judged_goes Accepted one same step = accepted_goes one same step
+    judged_goes (Unsound why) one same step = refused_goes (Unsound why) (refusal_led (Unsound why) one refl same) step
+    judged_goes (OutOfBits field needed free) one same step = refused_goes (OutOfBits field needed free) (refusal_led (OutOfBits field needed free) one refl same) step
+    judged_goes (OutOfSlots needed free) one same step = refused_goes (OutOfSlots needed free) (refusal_led (OutOfSlots needed free) one refl same) step
+
+    -- one in two parts is two commits of the trace
+    two_goes : StepsInTwo setting pending front mid → Goes
+    two_goes two =
+        let right = two.right in
+        let both = both-commit setting pending right front mid two in
+        let one = both.one in
+        let other = both.other in
+        let first = at_first pending in
+        let first_stands = stands_first_part setting device_slots pending state few stands right in
+        let first_accepted : verdict setting.slots setting.mode first.rules first.batch ≡ Accepted = accepted-first setting pending right in
+        let between = after_segment setting first one.made in
+        let between_state = state_after state one.made in
+        let known = ended first state rest first_stands first_accepted one.made one.segment one.in_use in
+        let between_rest : Tracing = record known { accepted = known.accepted + 1 } in
+        let between_stands = stands_behind setting device_slots first state one.made first_stands first_accepted one.segment one.in_use refl in
+        let last = at_rest pending between in
+        let last_stands = stands_rest setting device_slots pending state few stands right between between_state between_stands in
+        let last_accepted : verdict setting.slots setting.mode last.rules last.batch ≡ Accepted = accepted-rest setting pending right in
+        let behind_known = ended last between_state between_rest last_stands last_accepted other.made other.segment other.in_use in
+        let last_rest : Tracing = record behind_known { accepted = behind_known.accepted + 1 } in
+        let one_actions = actions_for setting first one.made in
+        let other_actions = actions_for setting last other.made in
+        let one_part = Work (map change_line first.batch) (map action_line one_actions) in
+        let other_part = Work (map change_line last.batch) (map action_line other_actions) in
+        let next = count_of (set_after last.rules last.batch) [] Nothing acts in
+        let same : count_of pending.rules pending.batch pending.asked (Commit ∷ acts) ≡ suc (suc next) =
+        count-is acts pending true (parts-true setting pending right) ∙ ap (λ (set : List Rule). suc (suc (count_of set [] Nothing acts))) (sym (leads-whole setting pending right)) in
+        let one_done : done_count (part_lines (first.commits + 1) one_part) ≡ 1 = done-commit first.batch one_actions (first.commits + 1) in
+        let other_done : done_count (part_lines (between.commits + 1) other_part) ≡ 1 = done-commit last.batch other_actions (between.commits + 1) in
+        let last_goes = one_further between between_state between_rest (carried setting last other_actions ++ Prints (shared_line [] (line.Done (last.commits + 1))) ∷ []) (after_segment setting last other.made) (state_after between_state other.made) last_rest back new other_part (suc next) next
+        (of_same other_part between last.batch last.asked last.early between_state between_rest _ _ _ _ (commit_goes last between_state between_rest last_stands last_accepted other.made other.segment other.in_use)) (omega (arith, other_done))
+        (subst (λ p. Later acts p back new) other.after later (state_after between_state other.made) last_rest (stands_behind setting device_slots last between_state other.made last_stands last_accepted other.segment other.in_use refl)) in
+        let all = one_further pending state rest (carried setting first one_actions ++ Prints (shared_line [] (line.Done (first.commits + 1))) ∷ []) between between_state between_rest
+        ((carried setting last other_actions ++ Prints (shared_line [] (line.Done (last.commits + 1))) ∷ []) ++ back) new one_part (count_of pending.rules pending.batch pending.asked (Commit ∷ acts)) (suc next)
+        (of_same one_part pending first.batch first.asked first.early state rest _ _ _ _ (commit_goes first state rest first_stands first_accepted one.made one.segment one.in_use)) (omega (arith, same, one_done)) last_goes in
+        subst (λ (some : List Effect). ActsGo (Commit ∷ acts) pending state rest some new)
+        (ap₂ (λ (one_front : List Effect) (other_front : List Effect). one_front ++ (other_front ++ back)) (sym one.effects_are) (sym other.effects_are)
+        ∙ sym (append_assoc both.front both.back back) ∙ ap (λ (some : List Effect). some ++ back) (sym both.effects_are)) all
 
   -- behind a commit none is pending
   none_pending : (old : Progress) (is : Verdict) (front : List Effect) (mid : Progress) → Judged Commits setting (settled_at old) is front mid → 0 ≡ changes_in mid.batch mid.asked
@@ -354,87 +441,52 @@ module _ (asked : Setting) (device_slots : ℕ) (few : asked.slots ≤ most_slot
   none_pending old (OutOfBits field needed free) front mid step = ap (λ (p : Progress). changes_in p.batch p.asked) (sym step.1)
   none_pending old (OutOfSlots needed free) front mid step = ap (λ (p : Progress). changes_in p.batch p.asked) (sym step.1)
 
-  -- a strict command more is told too,
-  with_told : (batch : List Change) (asked : Requested) (change : Change) → AllByRecursion (IsTraceChange (family_version setting.family)) batch → AllByRecursion (IsTraceChange (family_version setting.family)) (forms_of asked)
-      → IsTraceChange (family_version setting.family) change
-      → AllByRecursion (IsTraceChange (family_version setting.family)) (batch_with batch asked change) × AllByRecursion (IsTraceChange (family_version setting.family)) (forms_of (asked_with asked change))
-  with_told batch Nothing change told asks one = (all_append (IsTraceChange (family_version setting.family)) batch (change ∷ []) told (one, tt), tt)
-  with_told batch (Changes requests) change told asks one = (told, forms_more (family_version setting.family) requests (Strict change) asks one)
-  with_told batch (Whole requests) change told asks one = (told, forms_more (family_version setting.family) requests (Strict change) asks one)
-
-  -- and one that doesn't ask what is there
-  behind_told : (batch : List Change) (asked : Requested) (request : Request) → AllByRecursion (IsTraceChange (family_version setting.family)) batch → AllByRecursion (IsTraceChange (family_version setting.family)) (forms_of asked)
-      → IsTraceChange (family_version setting.family) (strict_form request)
-      → AllByRecursion (IsTraceChange (family_version setting.family)) (batch_behind batch asked) × AllByRecursion (IsTraceChange (family_version setting.family)) (forms_of (asked_behind batch asked request))
-  behind_told batch Nothing request told asks one =
-      (tt, forms_more (family_version setting.family) (map Strict batch) request (subst (AllByRecursion (IsTraceChange (family_version setting.family))) (sym (forms-strict batch)) told) one)
-  behind_told batch (Changes requests) request told asks one = (told, forms_more (family_version setting.family) requests request asks one)
-  behind_told batch (Whole requests) request told asks one = (told, forms_more (family_version setting.family) requests request asks one)
+  -- a commit in one part or in two
+  committed_goes : (acts : List Act) (old : Progress) (state : State) (rest : Tracing) (front : List Effect) (mid : Progress) (back : List Effect) (new : Progress) → StandsWith setting device_slots old state
+      → (0 ≡ changes_in mid.batch mid.asked → Later acts mid back new) → (in_two : Bool) → parts_at setting old ≡ in_two → CommitsBy in_two setting old front mid → ActsGo (Commit ∷ acts) old state rest (front ++ back) new
+  committed_goes acts old state rest front mid back new stands next false one step =
+      let is = pending_verdict setting old in judged_goes acts old state rest front mid back new stands (next (none_pending old is front mid step)) is one refl step
+  committed_goes acts old state rest front mid back new stands next true both two =
+      let last = at_rest old two.middle in
+      two_goes acts old state rest front mid back new stands (next (none_pending last (pending_verdict setting last) two.second mid two.rest)) two
 
   pub acts_go : (acts : List Act) (old : Progress) (state : State) (rest : Tracing) (effects : List Effect) (new : Progress) → StandsWith setting device_slots old state
-      → AreTraceActs (family_version setting.family) (changes_in old.batch old.asked) acts → Run setting old acts effects new → ActsGo acts old state rest effects new
+      → AreTraceActs (family_version setting.family) (changes_in old.batch old.asked) acts → RunBy setting old acts effects new → ActsGo acts old state rest effects new
   acts_go [] old state rest effects new stands told run =
       subst (λ (some : List Effect). ActsGo [] old state rest some new) (sym run.0) (subst (ActsGo [] old state rest []) (sym run.1) (none old state rest))
   acts_go (Command change ∷ acts) old state rest effects new stands told (front, mid, back, step, run, are) =
       let size = more-with old.batch old.asked change in
       let less = told.1 in
-      let both = with_told old.batch old.asked change stands.told stands.asks_told told.0 in
+      let both = with_told (family_version setting.family) old.batch old.asked change stands.told stands.asks_told told.0 in
       let later = acts_go acts (record old { batch = batch_with old.batch old.asked change; asked = asked_with old.asked change }) state rest back new
       (record { at = stands.at; size = stands.size; at_rest = stands.at_rest; unused = stands.unused; rules_told = stands.rules_told; told = both.0; asks_told = both.1; short = omega arith })
-      (subst (λ n. AreTraceActs (family_version setting.family) n acts) (sym size) told.2) (subst (λ p. Run setting p acts back new) step.1 run) in
+      (subst (λ n. AreTraceActs (family_version setting.family) n acts) (sym size) told.2) (subst (λ p. RunBy setting p acts back new) step.1 run) in
       subst (λ (some : List Effect). ActsGo (Command change ∷ acts) old state rest some new) (sym (are ∙ ap (λ some. some ++ back) step.0)) later
   acts_go (Ask request ∷ acts) old state rest effects new stands told (front, mid, back, step, run, are) =
       let size = more-behind old.batch old.asked request in
       let less = told.1 in
-      let both = behind_told old.batch old.asked request stands.told stands.asks_told told.0 in
+      let both = behind_told (family_version setting.family) old.batch old.asked request stands.told stands.asks_told told.0 in
       let later = acts_go acts (record old { batch = batch_behind old.batch old.asked; asked = asked_behind old.batch old.asked request }) state rest back new
       (record { at = stands.at; size = stands.size; at_rest = stands.at_rest; unused = stands.unused; rules_told = stands.rules_told; told = both.0; asks_told = both.1; short = omega arith })
-      (subst (λ n. AreTraceActs (family_version setting.family) n acts) (sym size) told.2) (subst (λ p. Run setting p acts back new) step.1 run) in
+      (subst (λ n. AreTraceActs (family_version setting.family) n acts) (sym size) told.2) (subst (λ p. RunBy setting p acts back new) step.1 run) in
       subst (λ (some : List Effect). ActsGo (Ask request ∷ acts) old state rest some new) (sym (are ∙ ap (λ some. some ++ back) step.0)) later
   acts_go (All ∷ acts) old state rest effects new stands told (front, mid, back, step, run, are) =
       let later = acts_go acts (record old { batch = []; asked = Whole [] }) state rest back new
       (record { at = stands.at; size = stands.size; at_rest = stands.at_rest; unused = stands.unused; rules_told = stands.rules_told; told = tt; asks_told = tt; short = omega arith }) told
-      (subst (λ p. Run setting p acts back new) step.1 run) in
+      (subst (λ p. RunBy setting p acts back new) step.1 run) in
       subst (λ (some : List Effect). ActsGo (All ∷ acts) old state rest some new) (sym (are ∙ ap (λ some. some ++ back) step.0)) later
   acts_go (Probe key ∷ acts) old state rest effects new stands told (front, mid, back, step, run, are) =
       let later = acts_go acts (record old { probes = old.probes ++ key ∷ [] }) state rest back new
       (record { at = stands.at; size = stands.size; at_rest = stands.at_rest; unused = stands.unused; rules_told = stands.rules_told; told = stands.told; asks_told = stands.asks_told; short = stands.short }) told
-      (subst (λ p. Run setting p acts back new) step.1 run) in
+      (subst (λ p. RunBy setting p acts back new) step.1 run) in
       subst (λ (some : List Effect). ActsGo (Probe key ∷ acts) old state rest some new) (sym (are ∙ ap (λ some. some ++ back) step.0)) later
   acts_go (Packet key ∷ acts) old state rest effects new stands told (front, mid, back, step, run, are) =
-      let later = acts_go acts old state rest back new stands told (subst (λ p. Run setting p acts back new) step.1 run) in
+      let later = acts_go acts old state rest back new stands told (subst (λ p. RunBy setting p acts back new) step.1 run) in
       subst (λ (some : List Effect). ActsGo (Packet key ∷ acts) old state rest some new) (sym (are ∙ ap (λ some. some ++ back) step.0)) later
   acts_go (Commit ∷ acts) old state rest effects new stands told (front, mid, back, step, run, are) =
-      let is = pending_verdict setting old in
       subst (λ (some : List Effect). ActsGo (Commit ∷ acts) old state rest some new) (sym are)
-      (judged_goes acts old state rest front mid back new stands
-      (λ mid_state mid_rest mid_stands.
-      acts_go acts mid mid_state mid_rest back new mid_stands (subst (λ n. AreTraceActs (family_version setting.family) n acts) (none_pending old is front mid step) told) run)
-      is refl step)
+      (committed_goes acts old state rest front mid back new stands
+      (λ none mid_state mid_rest mid_stands. acts_go acts mid mid_state mid_rest back new mid_stands (subst (λ n. AreTraceActs (family_version setting.family) n acts) none told) run)
+      (parts_at setting old) refl step)
   acts_go (Trial most ∷ acts) old state rest effects new stands told run = absurd told
   acts_go (Crash after ∷ acts) old state rest effects new stands told run = absurd told
-
--- ---- there are no more commits than acts
-
-judged_commits : (asked : Setting) (old : Progress) (is : Verdict) (front : List Effect) (mid : Progress) → Judged Commits asked old is front mid → mid.commits ≡ old.commits + 1
-judged_commits asked old Accepted front mid step = ap (λ (p : Progress). p.commits) step.after
-judged_commits asked old (Unsound why) front mid step = ap (λ (p : Progress). p.commits) step.1
-judged_commits asked old (OutOfBits field needed free) front mid step = ap (λ (p : Progress). p.commits) step.1
-judged_commits asked old (OutOfSlots needed free) front mid step = ap (λ (p : Progress). p.commits) step.1
-
-pub few_commits : (asked : Setting) (acts : List Act) (pending : ℕ) (old : Progress) (effects : List Effect) (new : Progress) → AreTraceActs (family_version asked.family) pending acts → Run asked old acts effects new → new.commits ≤ old.commits + length acts
-few_commits asked [] pending old effects new told run = let same = ap (λ (p : Progress). p.commits) run.1 in omega arith
-few_commits asked (Command change ∷ acts) pending old effects new told (front, mid, back, step, run, are) =
-    let same = ap (λ (p : Progress). p.commits) step.1 in let later = few_commits asked acts (pending + 1) mid back new told.2 run in omega arith
-few_commits asked (Ask request ∷ acts) pending old effects new told (front, mid, back, step, run, are) =
-    let same = ap (λ (p : Progress). p.commits) step.1 in let later = few_commits asked acts (pending + 1) mid back new told.2 run in omega arith
-few_commits asked (All ∷ acts) pending old effects new told (front, mid, back, step, run, are) =
-    let same = ap (λ (p : Progress). p.commits) step.1 in let later = few_commits asked acts 0 mid back new told run in omega arith
-few_commits asked (Probe key ∷ acts) pending old effects new told (front, mid, back, step, run, are) =
-    let same = ap (λ (p : Progress). p.commits) step.1 in let later = few_commits asked acts pending mid back new told run in omega arith
-few_commits asked (Packet key ∷ acts) pending old effects new told (front, mid, back, step, run, are) =
-    let same = ap (λ (p : Progress). p.commits) step.1 in let later = few_commits asked acts pending mid back new told run in omega arith
-few_commits asked (Commit ∷ acts) pending old effects new told (front, mid, back, step, run, are) =
-    let same = judged_commits asked (settled_at old) (pending_verdict asked old) front mid step in let later = few_commits asked acts 0 mid back new told run in omega arith
-few_commits asked (Trial most ∷ acts) pending old effects new told run = absurd told
-few_commits asked (Crash after ∷ acts) pending old effects new told run = absurd told

@@ -14,11 +14,11 @@ use Rattle.settled_changes.specs.declared.Request.TheVariants.{Strict, Put, Drop
 use Rattle.settled_changes.specs.Requests.{AreTaken, asked_set, is_asked}
 use Rattle.settled_changes.specs.Settled.{drop_change, drops_of, put_change, puts_of, request_change, same_conditions, settled, whole_requests}
 use Rattle.settled_changes.proofs.Leads.{leads}
-use Rattle.settled_changes.proofs.AskedFor.{forms-append}
+use Rattle.settled_changes.proofs.AskedFor.{forms-append, forms-strict}
 use Rattle.trace_file.specs.Forms.{IsTraceRank, IsTraceRule}
 use Rattle.settled_changes.specs.declared.requested.Requested.{Requested}
 use Rattle.settled_changes.specs.declared.requested.Requested.TheVariants.{Nothing, Changes, Whole}
-use Rattle.settled_changes.specs.Requested.{TakesAsked, settled_batch, strict_form}
+use Rattle.settled_changes.specs.Requested.{TakesAsked, asked_behind, asked_with, batch_behind, batch_with, settled_batch, strict_form}
 use Rattle.json_traces.proofs.TraceRules.{IsTraceChange, set_told}
 
 -- what is asked for, as strict commands
@@ -28,7 +28,7 @@ forms_of (Changes requests) = map strict_form requests
 forms_of (Whole requests) = map strict_form requests
 
 -- a rule's priority and result
-rank_told : (version : IpVersion) (rule : Rule) → IsTraceRule version rule → IsTraceRank version rule.priority
+pub rank_told : (version : IpVersion) (rule : Rule) → IsTraceRule version rule → IsTraceRank version rule.priority
 rank_told V4 rule is = is.priority
 rank_told V6 rule is = is.priority
 
@@ -103,3 +103,20 @@ pub forms_more : (version : IpVersion) (requests : List Request) (request : Requ
     → AllByRecursion (IsTraceChange version) (map strict_form (requests ++ request ∷ []))
 forms_more version requests request is one =
     subst (AllByRecursion (IsTraceChange version)) (sym (forms-append requests (request ∷ []))) (all_append (IsTraceChange version) (map strict_form requests) (strict_form request ∷ []) is (one, tt))
+
+-- a strict command more is told too,
+pub with_told : (version : IpVersion) (batch : List Change) (asked : Requested) (change : Change) → AllByRecursion (IsTraceChange version) batch → AllByRecursion (IsTraceChange version) (forms_of asked)
+    → IsTraceChange version change
+    → AllByRecursion (IsTraceChange version) (batch_with batch asked change) × AllByRecursion (IsTraceChange version) (forms_of (asked_with asked change))
+with_told version batch Nothing change told asks one = (all_append (IsTraceChange version) batch (change ∷ []) told (one, tt), tt)
+with_told version batch (Changes requests) change told asks one = (told, forms_more version requests (Strict change) asks one)
+with_told version batch (Whole requests) change told asks one = (told, forms_more version requests (Strict change) asks one)
+
+-- and one that doesn't ask what is there
+pub behind_told : (version : IpVersion) (batch : List Change) (asked : Requested) (request : Request) → AllByRecursion (IsTraceChange version) batch → AllByRecursion (IsTraceChange version) (forms_of asked)
+    → IsTraceChange version (strict_form request)
+    → AllByRecursion (IsTraceChange version) (batch_behind batch asked) × AllByRecursion (IsTraceChange version) (forms_of (asked_behind batch asked request))
+behind_told version batch Nothing request told asks one =
+    (tt, forms_more version (map Strict batch) request (subst (AllByRecursion (IsTraceChange version)) (sym (forms-strict batch)) told) one)
+behind_told version batch (Changes requests) request told asks one = (told, forms_more version requests request asks one)
+behind_told version batch (Whole requests) request told asks one = (told, forms_more version requests request asks one)

@@ -1,8 +1,9 @@
 -- Where a run stands between its commits: its set is at rest on the device, whose other slots are empty.
-use Rattle.std.proofs.Common.{◌≡◌, ℕ, ◌+◌, ◌-◌, ◌≤◌, List, [], ◌∷◌, ◌++◌, length, replicate, Contains, Option, Some, None, refl, sym, ap, ◌∙◌, subst, arith}
+use Rattle.std.proofs.Common.{◌≡◌, true, false, ℕ, ◌+◌, ◌-◌, ◌≤◌, List, [], ◌∷◌, ◌++◌, length, replicate, Contains, Option, Some, None, refl, sym, ap, ◌∙◌, subst, arith}
 use Rattle.std.specs.List.{AllByRecursion}
 use Rattle.std.proofs.lemmas.List.{length-replicate, replicate-append-replicate}
 use Rattle.std.proofs.lemmas.Option.{none-some}
+use Rattle.std.proofs.lemmas.Bool.{and_parts}
 use Rattle.slot_order.proofs.Lists.{contains_none}
 use Rattle.rule_model.specs.declared.IpVersion.{IpVersion}
 use Rattle.rule_model.specs.declared.words.Entry.{Entry}
@@ -43,6 +44,11 @@ use Rattle.settled_changes.specs.declared.requested.Requested.TheVariants.{Nothi
 use Rattle.settled_changes.specs.Requested.{TakesAsked, changes_in, settled_batch, settled_verdict}
 use Rattle.replay.specs.Run.{Progress, start, after_segment, pending_verdict, settled_at}
 use Rattle.report_lines.specs.Text.{family_version}
+use Rattle.rule_model.specs.declared.Rule.{Rule}
+use Rattle.removals_first.specs.Early.{early_batch, spared_rules}
+use Rattle.replay.specs.Early.{IsPartedAt, at_first, at_rest, is_sound}
+use Rattle.tcam_cli.proofs.PartedWrites.{accepted-first}
+use Rattle.json_traces.proofs.PartsTold.{early_few, early_short, early_told, late_few, late_told}
 use Rattle.json_traces.proofs.SettledTold.{batch_told, forms_of}
 use Rattle.json_traces.proofs.TraceRules.{IsTraceChange, told_changes, set_told}
 
@@ -168,20 +174,17 @@ module _ (setting : Setting) (old : Progress) (set : IsRuleSet old.rules) (right
       ap (λ fault. verdict_by fault (room_verdict setting.slots setting.mode old.rules (settled old.rules (whole_requests old.rules whole)))) sound ∙ found.1
 
   -- the rules are no more than the slots
-  rules_few : (batch : List Change) → verdict setting.slots setting.mode old.rules batch ≡ Accepted → length old.rules ≤ most_pending
+  pub rules_few : (batch : List Change) → verdict setting.slots setting.mode old.rules batch ≡ Accepted → length old.rules ≤ most_pending
   rules_few batch accepted =
       let fits = taken setting.slots setting.mode old.rules batch accepted in
       let entries = (accepted_room setting.slots setting.mode old.rules batch fits.sound accepted).entries in
       let fewer = rules_entries setting.mode old.rules right in
       omega arith
 
-  pub settled_short : (asked : Requested) → changes_in old.batch asked ≤ most_pending → settled_verdict setting.slots setting.mode old.rules old.batch asked ≡ Accepted
-      → length (settled_batch old.rules old.batch asked) ≤ most_commands
-  settled_short Nothing short accepted = omega arith
-  settled_short (Changes requests) short accepted = let many = twice_as_many old.rules requests in omega arith
-  settled_short (Whole requests) short accepted =
-      whole_fits old.rules requests (asked_set [] requests) refl
-      (rules_few (settled_batch old.rules old.batch (Whole requests)) (accepted_settled (Whole requests) accepted)) short
+  pub settled_short : (asked : Requested) → changes_in old.batch asked ≤ most_pending → length old.rules ≤ most_pending → length (settled_batch old.rules old.batch asked) ≤ most_commands
+  settled_short Nothing short few = omega arith
+  settled_short (Changes requests) short few = let many = twice_as_many old.rules requests in omega arith
+  settled_short (Whole requests) short few = whole_fits old.rules requests (asked_set [] requests) refl few short
 
 -- a run that stands so stands with its settled batch, where that is accepted
 pub stands_settled : (setting : Setting) (device_slots : ℕ) (old : Progress) (state : State) → setting.slots ≤ most_slots → StandsWith setting device_slots old state → pending_verdict setting old ≡ Accepted
@@ -194,5 +197,59 @@ stands_settled setting device_slots old state few stands accepted = record {
   rules_told = stands.rules_told;
   told = batch_told (family_version setting.family) old.rules old.batch old.asked stands.rules_told stands.told stands.asks_told
       (accepted_taken setting old stands.at_rest.is_set stands.at_rest.right few old.asked accepted);
-  short = settled_short setting old stands.at_rest.is_set stands.at_rest.right few old.asked stands.short accepted;
+  short = settled_short setting old stands.at_rest.is_set stands.at_rest.right few old.asked stands.short
+      (rules_few setting old stands.at_rest.is_set stands.at_rest.right few (settled_batch old.rules old.batch old.asked) (accepted_settled setting old stands.at_rest.is_set stands.at_rest.right few old.asked accepted));
 }
+
+-- ---- in two parts
+
+-- what is pending is taken, where it is parted
+sound_taken : (found : Option BatchFault) (room : Verdict) → is_sound (verdict_by found room) ≡ true → found ≡ None
+sound_taken None room is = refl
+sound_taken (Some fault) room is = absurd (let clash : false ≡ true = is in cc)
+
+parted_taken : (slots : ℕ) (mode : Mode) (rules : List Rule) (batch : List Change) (asked : Requested) → is_sound (settled_verdict slots mode rules batch asked) ≡ true → TakesAsked rules asked
+parted_taken slots mode rules batch Nothing is = tt
+parted_taken slots mode rules batch (Changes requests) is = sound_taken (requests_fault rules requests) _ is
+parted_taken slots mode rules batch (Whole requests) is = sound_taken (requests_fault [] requests) _ is
+
+module _ (setting : Setting) (device_slots : ℕ) (old : Progress) (state : State) (few : setting.slots ≤ most_slots) (stands : StandsWith setting device_slots old state) (right : IsPartedAt setting old) where
+  abbrev batch : List Change
+  batch = settled_batch old.rules old.batch old.asked
+
+  abbrev early : List Rule
+  early = spared_rules old.rules batch
+
+  fewer : length old.rules ≤ most_pending
+  fewer = rules_few setting old stands.at_rest.is_set stands.at_rest.right few (early_batch early) (accepted-first setting old right)
+
+  batch_is : (AllByRecursion (IsTraceChange (family_version setting.family)) batch) × (length batch ≤ most_commands)
+  batch_is =
+      let sound = (and_parts (is_sound (settled_verdict setting.slots setting.mode old.rules old.batch old.asked)) _ right.1.in_two).0 in (
+        batch_told (family_version setting.family) old.rules old.batch old.asked stands.rules_told stands.told stands.asks_told (parted_taken setting.slots setting.mode old.rules old.batch old.asked sound),
+        settled_short setting old stands.at_rest.is_set stands.at_rest.right few old.asked stands.short fewer,
+      )
+
+  -- a run stands so at the first part,
+  pub stands_first_part : StandsIn setting device_slots (at_first old) state
+  stands_first_part = record {
+    at = stands.at;
+    size = stands.size;
+    at_rest = stands.at_rest;
+    unused = stands.unused;
+    rules_told = stands.rules_told;
+    told = early_told (family_version setting.family) old.rules batch old.rules stands.rules_told;
+    short = let less = early_few old.rules batch old.rules in let same = early_short early in let most = fewer in omega (arith, less, same, most);
+  }
+
+  -- and at the second behind it
+  pub stands_rest : (mid : Progress) (mid_state : State) → StandsWith setting device_slots mid mid_state → StandsIn setting device_slots (at_rest old mid) mid_state
+  stands_rest mid mid_state between = record {
+    at = between.at;
+    size = between.size;
+    at_rest = between.at_rest;
+    unused = between.unused;
+    rules_told = between.rules_told;
+    told = late_told (family_version setting.family) early batch batch_is.0;
+    short = let less = late_few early batch in let most = batch_is.1 in omega (arith, less, most);
+  }

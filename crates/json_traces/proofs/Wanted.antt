@@ -20,7 +20,7 @@ use Rattle.replay.specs.Effects.{Setting}
 use Rattle.tcam_cli.specs.declared.own_texts.Topic.{Topic}
 use Rattle.tcam_cli.specs.Headline.{Job, NoJob, Reads, Verifies}
 use Rattle.option_words.specs.Options.{is_traced, number_given, number_in, placed_by, text_of}
-use Rattle.tcam_cli.specs.CommandLine.{job_at, job_by_faults, job_of, job_of_fault, is_json, is_named, made_at, mode_wanted, script_setting, tcam_app, topic_in}
+use Rattle.tcam_cli.specs.CommandLine.{job_at, job_by_faults, job_of, job_of_fault, is_json, is_named, parted_by, made_at, mode_wanted, script_setting, tcam_app, topic_in}
 use Rattle.tcam_cli.specs.Asked.{job_by, tested_job, tested_job_of_rows, tested_made, tested_script}
 use Rattle.tcam_cli.proofs.NumbersTaken.{tested}
 
@@ -47,20 +47,21 @@ given least greatest text job setting true tells asks =
 given least greatest text job setting false tells asks = absurd (cc)
 
 -- a script over so many slots
-asked : (family : Family) (slots : ℕ) (mode : Option Mode) (placement : Option Placement) (trace : Bool) (depth : ℕ) (json names : Bool) (setting : Setting) → 1 ≤ slots → slots ≤ most_slots
-    → job_at family slots mode placement trace depth json names ≡ Reads setting → AsksFor setting
-asked family slots None placement trace depth json names setting some most asks = absurd (cc)
-asked family slots (Some mode) None trace depth json names setting some most asks = absurd (cc)
-asked family slots (Some mode) (Some placement) trace depth json names setting some most asks =
-    let same : script_setting family slots mode placement trace depth json names ≡ setting = cc in
+asked : (family : Family) (slots : ℕ) (mode : Option Mode) (placement : Option Placement) (trace : Bool) (depth : ℕ) (json names : Bool) (parts : Option Bool) (setting : Setting) → 1 ≤ slots → slots ≤ most_slots
+    → job_at family slots mode placement trace depth json names parts ≡ Reads setting → AsksFor setting
+asked family slots None placement trace depth json names parts setting some most asks = absurd (cc)
+asked family slots (Some mode) None trace depth json names parts setting some most asks = absurd (cc)
+asked family slots (Some mode) (Some placement) trace depth json names None setting some most asks = absurd (cc)
+asked family slots (Some mode) (Some placement) trace depth json names (Some parts) setting some most asks =
+    let same : script_setting family slots mode placement trace depth json names parts ≡ setting = cc in
     subst AsksFor same (record { some = some; most = most })
 
 script_asked : (family : Family) (rows : List Row) (setting : Setting) → tested_script family rows ≡ Reads setting → AsksFor setting
 script_asked family rows setting asks =
-    let job : ℕ → ℕ → Job = λ slots depth. job_at family slots (mode_wanted family rows) (placed_by rows) (is_traced rows) depth (is_json rows) (is_named rows) in
+    let job : ℕ → ℕ → Job = λ slots depth. job_at family slots (mode_wanted family rows) (placed_by rows) (is_traced rows) depth (is_json rows) (is_named rows) (parted_by rows) in
     let slots = given 1 most_slots (text_of (codes "slots") rows) (λ slots. job_by (number_given 0 15 (codes "depth") rows) (job slots)) setting (is_unsigned_in 1 most_slots (text_of (codes "slots") rows)) refl asks in
     let depth = given 0 15 (text_of (codes "depth") rows) (job slots.number) setting (is_unsigned_in 0 15 (text_of (codes "depth") rows)) refl slots.asks in
-    asked family slots.number (mode_wanted family rows) (placed_by rows) (is_traced rows) depth.number (is_json rows) (is_named rows) setting slots.low slots.high depth.asks
+    asked family slots.number (mode_wanted family rows) (placed_by rows) (is_traced rows) depth.number (is_json rows) (is_named rows) (parted_by rows) setting slots.low slots.high depth.asks
 
 -- no script is asked for by what makes commands
 made_asked : (slots : ℕ) (mode : Option Mode) (placement : Option Placement) (seed rules batches : ℕ) (setting : Setting) → made_at slots mode placement seed rules batches ≡ Reads setting → AsksFor setting

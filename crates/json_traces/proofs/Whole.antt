@@ -21,7 +21,8 @@ use Rattle.replay.specs.Effects.{Setting, Effect, journal_of, printed}
 use Rattle.replay.specs.JsonLines.{behind, head_line, is_by_bits, is_list, shared_line}
 use Rattle.report_lines.specs.Text.{family_version}
 use Rattle.replay.specs.Reports.{fault_told, head_due}
-use Rattle.replay.specs.Run.{Progress, Runs, start, ending}
+use Rattle.replay.specs.Run.{Progress, start, ending}
+use Rattle.tcam_cli.specs.InTwo.{RunsBy}
 use Rattle.json_traces.specs.Traces.{trace_text, accepted_in, IsOrderlyReport, AreTraceActs, WantsTrace, JsonRunsAreOrderly}
 use Rattle.json_traces.proofs.Runs.{standing, ActsGo, acts_go}
 use Rattle.json_traces.proofs.Standing.{stands_first}
@@ -71,7 +72,7 @@ told_mode Cover = refl
 told_mode Bits = refl
 
 module _ (asked : Setting) (device_slots : ℕ) (wants : WantsTrace asked device_slots) (acts : List Act) (told : AreTraceActs (family_version asked.family) 0 acts) (body : List Effect) (last : Progress)
-    (run : Runs (in_json asked) device_slots acts body last) (small : last.commits < 2 ^ 32) (fault : List ℕ) where
+    (run : RunsBy (in_json asked) device_slots acts body last) (small : last.commits < 2 ^ 32) (fault : List ℕ) where
   abbrev setting : Setting
   setting = in_json asked
 
@@ -112,7 +113,7 @@ module _ (asked : Setting) (device_slots : ℕ) (wants : WantsTrace asked device
 pub json_runs_orderly : JsonRunsAreOrderly
 json_runs_orderly setting device_slots acts body last wants told run small few =
     let whole : setting ≡ in_json setting = ap (λ (told : Bool). record setting { json = told }) wants.json in
-    let carried = subst (λ (asked : Setting). Runs asked device_slots acts body last) whole run in
+    let carried = subst (λ (asked : Setting). RunsBy asked device_slots acts body last) whole run in
     let fits : last.writes < 2 ^ 64 = (let counts = (gone setting device_slots wants acts told body last carried small []).counts in omega arith) in
     subst (λ (asked : Setting). IsOrderlyReport [] (printed body ++ ending asked last) (accepted_in asked acts) (journal_of body)
     × ((number : ℕ) (text : List ℕ) → number < 2 ^ 32 → IsOrderlyReport text (printed body ++ fault_told asked last.commits number text) (accepted_in asked acts) (journal_of body))) (sym whole) (

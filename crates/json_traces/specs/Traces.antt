@@ -1,10 +1,13 @@
 -- The trace that a report in JSON is.
-use Rattle.std.specs.Prelude.{◌≡◌, ℕ, ◌+◌, ◌-◌, ◌^◌, ◌<◌, ◌≤◌, true, List, [], ◌∷◌, ◌++◌, length, flat_map}
+use Rattle.std.specs.Prelude.{◌≡◌, ℕ, suc, ◌&&◌, ◌+◌, ◌-◌, ◌^◌, ◌<◌, ◌≤◌, true, false, List, [], ◌∷◌, ◌++◌, length, flat_map}
 use Rattle.std.specs.List.{AllByRecursion}
 use Rattle.slot_order.specs.Order.{most_slots}
 use Rattle.rule_model.specs.declared.IpVersion.{IpVersion}
 use Rattle.rule_model.specs.declared.IpVersion.TheVariants.{V4}
-use Rattle.rule_store.specs.Batch.{most_pending}
+use Rattle.rule_model.specs.declared.Rule.{Rule}
+use Rattle.rule_store.specs.declared.Command.{Command as Change}
+use Rattle.rule_store.specs.Batch.{most_pending, set_after}
+use Rattle.rule_store.specs.Verdict.{Accepted}
 use Rattle.tcam_device.specs.declared.Write.{Write}
 use Rattle.trace_file.specs.declared.TraceLine.{TraceLine}
 use Rattle.trace_file.specs.declared.TraceLine.TheVariants.{Head}
@@ -15,12 +18,15 @@ use Rattle.trace_check.specs.Orderly.{IsTrace, IsOrderly}
 use Rattle.replay.specs.declared.Act.{Act}
 use Rattle.replay.specs.declared.Act.TheVariants.{Command, Ask, All, Probe, Packet, Commit, Trial, Crash}
 use Rattle.replay.specs.Effects.{Setting, Effect, journal_of, printed}
-use Rattle.settled_changes.specs.declared.requested.Requested.TheVariants.{Nothing}
-use Rattle.settled_changes.specs.Requested.{strict_form}
+use Rattle.settled_changes.specs.declared.requested.Requested.{Requested}
+use Rattle.settled_changes.specs.declared.requested.Requested.TheVariants.{Nothing, Whole}
+use Rattle.settled_changes.specs.Requested.{asked_behind, asked_with, batch_behind, batch_with, settled_batch, settled_verdict, strict_form}
 use Rattle.replay.specs.JsonLines.{change_line}
 use Rattle.replay.specs.Reports.{fault_told}
 use Rattle.report_lines.specs.Text.{family_version}
-use Rattle.replay.specs.Run.{Progress, Runs, ending}
+use Rattle.replay.specs.Early.{goes_in_two}
+use Rattle.replay.specs.Run.{Progress, ending}
+use Rattle.tcam_cli.specs.InTwo.{RunsBy}
 use Rattle.tcam_cli.specs.AllTheWay.{sets_through}
 
 -- the text of some lines of a trace of this version, one behind the other; the line of a fault has this text of it
@@ -64,15 +70,36 @@ pub record WantsTrace (setting : Setting) (device_slots : ℕ) : Type 0 where
   pub most : setting.slots ≤ most_slots
   pub device : setting.slots ≤ device_slots
 
--- how many commits of some acts are accepted, by the rule lists alone: each leads to one set more
+-- How many commits of some acts are made in two parts, by the rule lists alone.
+abbrev pub parted_through : Setting → List Rule → List Change → Requested → List Act → ℕ
+parted_through setting rules batch asked [] = 0
+parted_through setting rules batch asked (Command change ∷ acts) = parted_through setting rules (batch_with batch asked change) (asked_with asked change) acts
+parted_through setting rules batch asked (Ask request ∷ acts) = parted_through setting rules (batch_behind batch asked) (asked_behind batch asked request) acts
+parted_through setting rules batch asked (All ∷ acts) = parted_through setting rules [] (Whole []) acts
+parted_through setting rules batch asked (Probe key ∷ acts) = parted_through setting rules batch asked acts
+parted_through setting rules batch asked (Packet key ∷ acts) = parted_through setting rules batch asked acts
+parted_through setting rules batch asked (Commit ∷ acts) =
+    elim (setting.parts && goes_in_two setting.slots setting.mode rules batch asked) [
+      | true ↦ suc (parted_through setting (set_after rules (settled_batch rules batch asked)) [] Nothing acts)
+      | false ↦
+          elim (settled_verdict setting.slots setting.mode rules batch asked) [
+            | Accepted ↦ parted_through setting (set_after rules (settled_batch rules batch asked)) [] Nothing acts
+            | _ ↦ parted_through setting rules [] Nothing acts
+          ]
+    ]
+parted_through setting rules batch asked (Trial most ∷ acts) = 0
+parted_through setting rules batch asked (Crash after ∷ acts) = 0
+
+-- How many commits of some acts are accepted, by the rule lists alone: each leads to one set more, and one that is made in two
+-- parts is two commits of the trace.
 abbrev pub accepted_in : Setting → List Act → ℕ
-accepted_in setting acts = length (sets_through setting [] [] [] Nothing acts) - 1
+accepted_in setting acts = (length (sets_through setting [] [] [] Nothing acts) + parted_through setting [] [] Nothing acts) - 1
 
 -- Where all acts are carried out the report is an orderly trace, whose writes are those of the journal: with the line that
 -- tells of the end of the acts, and with one that tells of a fault.
 abbrev pub JsonRunsAreOrderly : Type 0
 JsonRunsAreOrderly =
     (setting : Setting) (device_slots : ℕ) (acts : List Act) (body : List Effect) (last : Progress) → WantsTrace setting device_slots → AreTraceActs (family_version setting.family) 0 acts
-    → Runs setting device_slots acts body last → last.commits < 2 ^ 32 → length (journal_of body) < 2 ^ 64
+    → RunsBy setting device_slots acts body last → last.commits < 2 ^ 32 → length (journal_of body) < 2 ^ 64
     → IsOrderlyReport [] (printed body ++ ending setting last) (accepted_in setting acts) (journal_of body)
     × ((number : ℕ) (text : List ℕ) → number < 2 ^ 32 → IsOrderlyReport text (printed body ++ fault_told setting last.commits number text) (accepted_in setting acts) (journal_of body))

@@ -4,4 +4,5 @@ pub mod making
 pub mod between
 pub mod course
 pub mod crash
+pub mod parting
 mod Examples

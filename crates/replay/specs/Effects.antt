@@ -18,7 +18,8 @@ use Rattle.replay.specs.Text.{probe_line, write_line, named_line, drain_line}
 use Rattle.report_lines.specs.Text.{family_version}
 
 -- what the words of a command line ask for: the slots in use, the encoding of ranges, where insertions aim, the family,
--- a trace, after how many further writes a probe's word is searched, a report in JSON, and a trace by names
+-- a trace, after how many further writes a probe's word is searched, a report in JSON, a trace by names, and removals
+-- before the rest of a commit where they may go first
 pub record Setting : Type 0 where
   pub slots : ℕ
   pub mode : Mode
@@ -28,6 +29,7 @@ pub record Setting : Type 0 where
   pub depth : ℕ
   pub json : Bool
   pub names : Bool
+  pub parts : Bool
 
 -- What a run does to the outside: it writes or drains the device, or it prints a line.
 pub data Effect : Type 0 where

@@ -10,7 +10,7 @@ use Rattle.json_text.specs.JsonText.{json_line}
 use Rattle.replay.specs.Effects.{Setting, Effect, Prints}
 use Rattle.replay.specs.JsonLines.{behind, change_line, head_line, shared_line}
 use Rattle.report_lines.specs.Text.{fault_line, family_version}
-use Rattle.replay.specs.Text.{accepted_line, end_line, packet_line, refused_line}
+use Rattle.replay.specs.Text.{accepted_line, early_line, end_line, packet_line, refused_line}
 
 -- The head of a report in JSON is due with the first line: that is the first commit's, or the last one.
 abbrev pub head_due : Setting → ℕ → Option TraceLine
@@ -30,9 +30,14 @@ opened setting commits batch =
       | false ↦ []
     ]
 
+-- the line in words of a commit that finished: its numbers, where it was one of removals that go first, or any other
+abbrev pub numbers_line : Bool → ℕ → Done → List ℕ
+numbers_line true commit counts = early_line commit counts
+numbers_line false commit counts = accepted_line commit counts
+
 -- the last line of a commit that finished: its numbers, or in JSON that it is done
-abbrev pub done_line : Bool → ℕ → Done → List ℕ
-done_line json commit counts = elim json [ true ↦ shared_line [] (line.Done commit) | false ↦ accepted_line commit counts ]
+abbrev pub done_line : Bool → Bool → ℕ → Done → List ℕ
+done_line json early commit counts = elim json [ true ↦ shared_line [] (line.Done commit) | false ↦ numbers_line early commit counts ]
 
 -- the line of a refused commit: the reason, and in JSON its number alone
 abbrev pub refusal_line : Setting → ℕ → Verdict → List ℕ

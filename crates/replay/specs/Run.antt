@@ -45,6 +45,7 @@ pub record Progress : Type 0 where
   pub commits : ℕ
   pub writes : ℕ
   pub refused : Bool
+  pub early : Bool
 
 -- before the first act, over a blank device of so many slots
 abbrev pub start : ℕ → Progress
@@ -59,6 +60,7 @@ start slots =
       commits = 0;
       writes = 0;
       refused = false;
+      early = false;
     }
 
 -- the actions of an accepted commit with these writes
@@ -120,7 +122,7 @@ pub record Commits (setting : Setting) (old : Progress) (effects : List Effect) 
   pub of_family : OfFamily setting.family old.state made
   pub in_use : AllByRecursion (IsInUse setting.slots) made
   pub numbers : AreCounts old.state made counts
-  pub effects_are : effects ≡ carried setting old (actions_for setting old made) ++ Prints (done_line setting.json (old.commits + 1) counts) ∷ []
+  pub effects_are : effects ≡ carried setting old (actions_for setting old made) ++ Prints (done_line setting.json old.early (old.commits + 1) counts) ∷ []
   pub after : new ≡ after_segment setting old made
 
 -- the actions of a commit that is taken back right after so many writes: no drain that is due then is made

@@ -53,16 +53,19 @@ use Rattle.replay.specs.Carried.{IsAt, Carries, CutsAtLine, CutsAtWrite, CutsEff
 use Rattle.replay.specs.Outside.{Outside}
 
 -- what is told of each write: how rules are named, whether a trace is wanted, after how many further writes a probe's
--- word is searched, whether all is told in JSON, whether a trace tells what a write does, and the keys that are probed
+-- word is searched, whether all is told in JSON, whether a trace tells what a write does, whether removals go first where
+-- they may, which is told of no write, and the keys that are probed
 pub record Watching : Type 0 where
   pub family : Family
   pub trace : Bool
   pub depth : ℕ
   pub json : Bool
   pub names : Bool
+  pub parts : Bool
   pub probes : List Key
 
--- The manager, what is told of each write, the pending batch, what is asked for beside it, and what the report counts;
+-- The manager, what is told of each write, the pending batch, what is asked for beside it, what the report counts, and
+-- whether what is pending are removals that go before a rest;
 -- how many writes of an unfinished commit were made, each of them told, of how many of these the probes' words are in
 -- flight, and what becomes of it; and whether no call may follow.
 pub record Running : Type 0 where
@@ -72,12 +75,14 @@ pub record Running : Type 0 where
   pub depth : ℕ
   pub json : Bool
   pub names : Bool
+  pub parts : Bool
   pub probes : List Key
   pub pending : List Change
   pub asked : Requested
   pub commits : ℕ
   pub writes : ℕ
   pub refused : Bool
+  pub early : Bool
   pub told : ℕ
   pub waiting : ℕ
   pub fate : Fate
@@ -85,7 +90,7 @@ pub record Running : Type 0 where
 
 -- what a run tells of each write
 abbrev pub watching : Running → Watching
-watching run = record { family = run.family; trace = run.trace; depth = run.depth; json = run.json; names = run.names; probes = run.probes }
+watching run = record { family = run.family; trace = run.trace; depth = run.depth; json = run.json; names = run.names; parts = run.parts; probes = run.probes }
 
 -- what the words of a command line asked for
 abbrev pub setting_of : Running → Setting
@@ -99,6 +104,7 @@ setting_of run =
       depth = run.depth;
       json = run.json;
       names = run.names;
+      parts = run.parts;
     }
 
 -- where the run stands, over a device of so many slots
@@ -114,6 +120,7 @@ progress_of device_slots run =
       commits = run.commits;
       writes = run.writes;
       refused = run.refused;
+      early = run.early;
     }
 
 -- a run before its first act
@@ -126,12 +133,14 @@ begun slots mode placement family trace depth json names =
       depth = depth;
       json = json;
       names = names;
+      parts = false;
       probes = [];
       pending = [];
       asked = Nothing;
       commits = 0;
       writes = 0;
       refused = false;
+      early = false;
       told = 0;
       waiting = 0;
       fate = ToTheEnd;
@@ -408,6 +417,7 @@ telling manager watch =
       depth = watch.depth;
       json = watch.json;
       names = watch.names;
+      parts = watch.parts;
     }
 
 -- it has come further by some actions
@@ -434,16 +444,16 @@ EndsBy back begun held actions ended.Reverted now =
     (back ≡ true) × (now ≡ record begun { state = state_after begun.state (writes_in actions); held = None })
 
 -- the line of one that finished
-abbrev pub finished_line : Bool → ℕ → Fate → Done → ℕ → List ℕ
-finished_line json commit ToTheEnd done writes = done_line json commit done
-finished_line json commit (BackAfter most) done writes = done_line json commit done
-finished_line json commit (CrashAfter after) done writes = done_line json commit done
-finished_line json commit (RestartedAfter after) done writes = restarted_line commit after writes
+abbrev pub finished_line : Bool → Bool → ℕ → Fate → Done → ℕ → List ℕ
+finished_line json early commit ToTheEnd done writes = done_line json early commit done
+finished_line json early commit (BackAfter most) done writes = done_line json early commit done
+finished_line json early commit (CrashAfter after) done writes = done_line json early commit done
+finished_line json early commit (RestartedAfter after) done writes = restarted_line commit after writes
 
 -- its line, by its number, by what became of it, and by its writes
-abbrev pub ended_line : Bool → ℕ → Fate → Ended → ℕ → List ℕ
-ended_line json commit fate (ended.Finished done) writes = finished_line json commit fate done writes
-ended_line json commit fate ended.Reverted writes = aborted_line commit writes
+abbrev pub ended_line : Bool → Bool → ℕ → Fate → Ended → ℕ → List ℕ
+ended_line json early commit fate (ended.Finished done) writes = finished_line json early commit fate done writes
+ended_line json early commit fate ended.Reverted writes = aborted_line commit writes
 
 -- a commit under way at a moment: its manager, how far it has come, and what stands outside of the run
 pub record Snapshot : Type 0 where

@@ -38,6 +38,11 @@ accepted_line commit counts =
     (codes "commit" ∷ decimal commit ∷ codes "ok" ∷ codes "writes" ∷ decimal counts.writes ∷ codes "words"
     ∷ decimal counts.words ∷ codes "most" ∷ decimal counts.most ∷ codes "span" ∷ decimal counts.span ∷ [])
 
+-- the same of removals that went before the rest
+abbrev pub early_line : ℕ → Done → List ℕ
+early_line commit counts =
+    line_text (codes "commit" ∷ decimal commit ∷ codes "early" ∷ codes "writes" ∷ decimal counts.writes ∷ [])
+
 -- a commit that was taken back, by its number and its writes both ways
 abbrev pub aborted_line : ℕ → ℕ → List ℕ
 aborted_line commit writes =

@@ -20,7 +20,7 @@ ghost use Rattle.tcam_device.specs.View.{IsSameButSpare};
 use crate::RunFault;
 use crate::fate::Fate;
 use crate::json_report::write_shared;
-use crate::report::{write_aborted, write_accepted, write_restarted};
+use crate::report::{write_aborted, write_accepted, write_early, write_restarted};
 use crate::run::Run;
 use crate::steps::{Ended, make_up_to, make_writes};
 use crate::watch::NOTHING;
@@ -266,6 +266,7 @@ impl Run {
         match write_ended(
             sink,
             self.watch.is_json(),
+            self.early,
             self.commits,
             fate,
             &ended,
@@ -292,18 +293,19 @@ impl Run {
 fn write_ended<K: Sink>(
     sink: &mut K,
     json: bool,
+    early: bool,
     commit: u32,
     fate: Fate,
     ended: &Ended,
     writes: u64,
 ) -> Result<(), Failed>
-    ensures { WritesLine K.taken K.accepted K.faults sink.old sink.new (ended_line json commit fate ended.now writes) result }
+    ensures { WritesLine K.taken K.accepted K.faults sink.old sink.new (ended_line json early commit fate ended.now writes) result }
 {
     match ended {
         Ended::Finished(done) => match fate {
             Fate::RestartedAfter(after) => write_restarted(sink, commit, after, writes),
             Fate::ToTheEnd | Fate::BackAfter(_) | Fate::CrashAfter(_) => write_finished(
-                sink, json, commit, done,
+                sink, json, early, commit, done,
             ),
         },
         Ended::Reverted => write_aborted(sink, commit, writes),
@@ -311,11 +313,19 @@ fn write_ended<K: Sink>(
 }
 
 // The line of a commit that finished, in JSON or in words, by its number, from 1, and what it did.
-fn write_finished<K: Sink>(sink: &mut K, json: bool, commit: u32, done: &Done) -> Result<(), Failed>
-    ensures { WritesLine K.taken K.accepted K.faults sink.old sink.new (done_line json commit done.now) result }
+fn write_finished<K: Sink>(
+    sink: &mut K,
+    json: bool,
+    early: bool,
+    commit: u32,
+    done: &Done,
+) -> Result<(), Failed>
+    ensures { WritesLine K.taken K.accepted K.faults sink.old sink.new (done_line json early commit done.now) result }
 {
     if json {
         write_shared(sink, &TraceLine::Done(commit))
+    } else if early {
+        write_early(sink, commit, done)
     } else {
         write_accepted(sink, commit, done)
     }

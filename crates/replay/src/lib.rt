@@ -120,6 +120,7 @@
 
 mod carrying;
 mod committing;
+mod early;
 mod fate;
 mod joining;
 mod json_report;
@@ -132,7 +133,8 @@ mod telling;
 mod watch;
 
 pub use batch_order::{Mode, Placement};
-pub use laws::crashed_parts_are_old_or_new;
+pub use early::goes_in_two;
+pub use laws::{crashed_parts_are_old_or_new, rests_are_taken, two_parts_are_one_commit};
 pub use report::{write_no, write_yes};
 pub use report_lines::{Family, write_fault, write_text};
 use rule_model::Key;

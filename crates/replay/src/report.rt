@@ -2,7 +2,7 @@
 //! What is said of a sink's bytes (`WritesLine`) holds of either count of them: of what it tells, and of what it
 //! accepted.
 ghost use Rattle.std.specs.Prelude.{◌≡◌, ◌<◌, [], ◌∷◌, ◌++◌, length};
-ghost use Rattle.replay.specs.Text.{packet_line, probe_line, write_line, named_line, drain_line, aborted_line, accepted_line, restarted_line, refused_line, end_line, yes_line, no_line};
+ghost use Rattle.replay.specs.Text.{packet_line, probe_line, write_line, named_line, drain_line, aborted_line, accepted_line, early_line, restarted_line, refused_line, end_line, yes_line, no_line};
 ghost use Rattle.report_lines.specs.Told.{verdict_told};
 ghost use Rattle.report_lines.specs.Outside.{WritesLine};
 
@@ -39,6 +39,18 @@ fn accepted(commit: u32, done: &Done) -> ReportLine
         .number(u64::from(done.most))
         .word("span")
         .number(u64::from(done.span))
+}
+
+// The line of removals that went before the rest of a commit.
+fn early(commit: u32, done: &Done) -> ReportLine
+    ensures text { result ++ 10 ∷ [] ≡ early_line commit done.now }
+    ensures len { length result < LINE_ROOM }
+{
+    ReportLine::new("commit")
+        .number(u64::from(commit))
+        .word("early")
+        .word("writes")
+        .number(done.writes)
 }
 
 // The line of a commit that was taken back.
@@ -174,6 +186,14 @@ pub fn write_accepted<K: Sink>(sink: &mut K, commit: u32, done: &Done) -> Result
     ensures { WritesLine K.taken K.accepted K.faults sink.old sink.new (accepted_line commit done.now) result }
 {
     accepted(commit, done).write(sink)
+}
+
+/// Writes the line of removals that went before the rest of a commit, by the number of theirs, from 1, and what they did.
+/// Takes no memory. Where the sink fails, a part of the line was taken, perhaps none or all of it.
+pub fn write_early<K: Sink>(sink: &mut K, commit: u32, done: &Done) -> Result<(), Failed>
+    ensures { WritesLine K.taken K.accepted K.faults sink.old sink.new (early_line commit done.now) result }
+{
+    early(commit, done).write(sink)
 }
 
 /// Writes the line of a commit that was taken back, by its number, from 1, and its writes both ways. Takes no memory.

@@ -45,6 +45,8 @@ pub struct Run {
     pub(crate) commits: u32,
     pub(crate) writes: u64,
     pub(crate) refused: bool,
+    /// Whether what is pending are removals that go before a rest.
+    pub(crate) early: bool,
     /// How far the unfinished commit has come, 0 and 0 where none is unfinished.
     pub(crate) count: Count,
     /// What becomes of the unfinished commit.
@@ -58,9 +60,9 @@ impl Model for Run {
 
     ghost Value = { Running };
 
-    ghost view = { λ r. record { manager = r.manager; family = r.watch.family; trace = r.watch.trace; depth = r.watch.depth; json = r.watch.json; names = r.watch.names; probes = r.watch.probes; pending = r.pending; asked = r.asked; commits = r.commits; writes = r.writes; refused = r.refused; told = r.count.told; waiting = r.count.waiting; fate = r.fate; broken = r.broken } };
+    ghost view = { λ r. record { manager = r.manager; family = r.watch.family; trace = r.watch.trace; depth = r.watch.depth; json = r.watch.json; names = r.watch.names; parts = r.watch.parts; probes = r.watch.probes; pending = r.pending; asked = r.asked; commits = r.commits; writes = r.writes; refused = r.refused; early = r.early; told = r.count.told; waiting = r.count.waiting; fate = r.fate; broken = r.broken } };
 
-    ghost invariant = { λ r. IsRun (record { manager = r.manager; family = r.watch.family; trace = r.watch.trace; depth = r.watch.depth; json = r.watch.json; names = r.watch.names; probes = r.watch.probes; pending = r.pending; asked = r.asked; commits = r.commits; writes = r.writes; refused = r.refused; told = r.count.told; waiting = r.count.waiting; fate = r.fate; broken = r.broken }) };
+    ghost invariant = { λ r. IsRun (record { manager = r.manager; family = r.watch.family; trace = r.watch.trace; depth = r.watch.depth; json = r.watch.json; names = r.watch.names; parts = r.watch.parts; probes = r.watch.probes; pending = r.pending; asked = r.asked; commits = r.commits; writes = r.writes; refused = r.refused; early = r.early; told = r.count.told; waiting = r.count.waiting; fate = r.fate; broken = r.broken }) };
 }
 
 impl Run {
@@ -97,6 +99,7 @@ impl Run {
             commits: 0,
             writes: 0,
             refused: false,
+            early: false,
             count: NOTHING,
             fate: Fate::ToTheEnd,
             broken: false,

@@ -3,7 +3,7 @@
 //! A probe is a look-up of two events: after each write the words of all probes are put into flight, and they are
 //! searched a depth of writes later. Behind the search a line tells what it answered.
 
-ghost use Rattle.std.specs.Prelude.{◌≡◌, ◌≢◌, ◌↔◌, ◌==◌, ◌+◌, ◌≤◌, ◌++◌, ◌∷◌, [], IsTrue, IfOk, OnOk, length, take, drop};
+ghost use Rattle.std.specs.Prelude.{false, ◌≡◌, ◌≢◌, ◌↔◌, ◌==◌, ◌+◌, ◌≤◌, ◌++◌, ◌∷◌, [], IsTrue, IfOk, OnOk, length, take, drop};
 ghost use Rattle.std.specs.List.{AllByRecursion};
 ghost use Rattle.rule_model.specs.Key.{IsKey};
 ghost use Rattle.tcam_device.specs.View.{device_state, IsSameButFlight};
@@ -55,6 +55,8 @@ pub(crate) struct Watch {
     depth: u32,
     json: bool,
     names: bool,
+    // Whether removals go first where they may: of a write it tells nothing.
+    parts: bool,
     // There is room for the most probes from the start, so that a probe takes no memory.
     probes: Vec<Key>,
 }
@@ -65,7 +67,7 @@ impl Model for Watch {
 
     ghost Value = { Watching };
 
-    ghost view = { λ w. record { family = w.family; trace = w.trace; depth = w.depth; json = w.json; names = w.names; probes = w.probes.items } };
+    ghost view = { λ w. record { family = w.family; trace = w.trace; depth = w.depth; json = w.json; names = w.names; parts = w.parts; probes = w.probes.items } };
 
     ghost invariant = { λ w. (length w.probes.items ≤ 16) × (16 ≤ vec_capacity w.probes) × (w.depth ≤ 15) };
 }
@@ -81,7 +83,7 @@ impl Watch {
         names: bool,
     ) -> Result<Watch, AllocError>
         requires depth { depth ≤ 15 }
-        ensures { IfOk result (λ watch. watch ≡ record { family = family; trace = trace; depth = depth; json = json; names = names; probes = [] }) }
+        ensures { IfOk result (λ watch. watch ≡ record { family = family; trace = trace; depth = depth; json = json; names = names; parts = false; probes = [] }) }
     {
         Ok(Watch {
             family,
@@ -89,8 +91,23 @@ impl Watch {
             depth,
             json,
             names,
+            parts: false,
             probes: Vec::with_capacity(alloc, MOST_PROBES)?,
         })
+    }
+
+    /// Whether removals go first where they may.
+    pub(crate) fn parts(&self) -> bool
+        ensures { result ≡ self.now.parts }
+    {
+        self.parts
+    }
+
+    /// Removals go first where they may, or they don't.
+    pub(crate) fn put_parts(&mut self, parts: bool)
+        ensures { self.new ≡ record self.old { parts = parts } }
+    {
+        self.parts = parts;
     }
 
     /// How the rules are named.

@@ -1,5 +1,5 @@
 -- After each write of a run every key has the answer of one of the script's sets or of the next one.
-use Rattle.std.proofs.Common.{◌≡◌, inl, inr, ℕ, zero, suc, ◌+◌, ◌-◌, ◌<◌, ◌≤◌, le_refl, Bool, true, false, min, le_trans, Option, Some, None, List, [], ◌∷◌, ◌++◌, length, take, slice_get, refl, ap, sym, ◌∙◌, subst, arith, append_assoc}
+use Rattle.std.proofs.Common.{◌≡◌, inl, inr, ℕ, zero, suc, ◌+◌, ◌-◌, ◌<◌, ◌≤◌, le_refl, Bool, true, false, min, le_trans, Option, Some, None, List, [], ◌∷◌, ◌++◌, length, take, slice_get, refl, ap, sym, ◌∙◌, subst, arith, append_assoc, append-nil}
 use Rattle.std.proofs.lemmas.Bool.{cases_lt}
 use Rattle.std.proofs.Math.Seq.{take-nil}
 use Rattle.std.specs.Prelude.{option_map}
@@ -18,8 +18,11 @@ use Rattle.replay.specs.declared.Act.{Act}
 use Rattle.replay.specs.declared.Act.TheVariants.{Command, Ask, All, Probe, Packet, Commit, Trial, Crash}
 use Rattle.settled_changes.specs.declared.requested.Requested.TheVariants.{Nothing}
 use Rattle.replay.specs.Effects.{Setting, Effect, journal_of}
-use Rattle.replay.specs.Run.{Progress, start, Commits, Returns, Restarts, Refuses, Tries, Crashes, Judged, HasEffects, Run, Runs, pending_verdict, settled_at}
+use Rattle.replay.specs.Run.{Progress, start, Commits, Returns, Restarts, Refuses, Tries, Crashes, Judged, pending_verdict, settled_at}
+use Rattle.replay.specs.Early.{parts_at}
 use Rattle.script_runs.specs.Places.{IsFirstPast}
+use Rattle.tcam_cli.specs.InTwo.{CommitsBy, RunBy, RunsBy, StepsBy, StepsInTwo}
+use Rattle.tcam_cli.proofs.PartedWrites.{makes-both}
 use Rattle.tcam_cli.specs.AllTheWay.{Led, Stands, TakenBack, rules_in, set_at, sets_through, ShowsSetOrNext, AnswersAllTheWay, AreShownInTurn, EndsAtLast}
 use Rattle.replay.proofs.lines.Effects.{written-append}
 use Rattle.replay.proofs.crash.Crashed.{joined, written-restarts}
@@ -170,24 +173,9 @@ wider state sets all writes (behind, same) is = record {
 
 -- ---- a run
 
--- on the way, and at its end
-abbrev Goes : State → List Led → List Write → Type 0
-Goes state sets writes = AnswersAllTheWay state sets writes × EndsAtLast state sets writes
-
 -- where a run stands its state shows its set
 abbrev IsShown : Progress → Type 0
 IsShown progress = Shows progress.state progress.rules
-
--- what acts do from where a run stands, with some trials taken back
-abbrev GoesBy : Setting → List Bool → Progress → List Act → List Write → Type 0
-GoesBy setting backs old acts writes = Goes old.state (sets_through setting backs old.rules old.batch old.asked acts) writes
-
-abbrev GoesOn : Setting → Progress → List Act → List Write → Type 0
-GoesOn setting old acts writes = (backs : List Bool) × GoesBy setting backs old acts writes
-
--- what comes behind a commit
-abbrev Later : Setting → Progress → List Act → List Write → Type 0
-Later setting mid acts back = IsShown mid → GoesOn setting mid acts back
 
 -- where a run stands its state shows the first of the sets to come
 shows-first : (state : State) (setting : Setting) (backs : List Bool) (rules : List Rule) (acts : List Act) → Shows state rules → ShowsFirst state (sets_through setting backs rules [] Nothing acts)
@@ -228,44 +216,6 @@ ends-behind state first sets made back here ends = record {
   in_turn = shown-first state first sets (made ++ back) here (shown-behind state sets made back ends.in_turn);
 }
 
--- a commit that finishes
-goes-commit : (setting : Setting) (old : Progress) (front : List Effect) (mid : Progress) (acts : List Act) (back : List Write) → IsShown old → Commits setting (settled_at old) front mid → Later setting mid acts back
-    → (backs : List Bool) × Goes old.state (Stands old.rules ∷ sets_through setting backs (set_after old.rules (settled_at old).batch) [] Nothing acts) (journal_of front ++ back)
-goes-commit setting old front mid acts back shown step more =
-    let new : List Rule = set_after old.rules (settled_at old).batch in
-    let P : Progress → Type 0 = λ p. Later setting p acts back in
-    let last = subst P step.after more step.segment.hitless.after in
-    let sets : List Led = sets_through setting last.0 new [] Nothing acts in
-    let made : step.made ++ back ≡ journal_of front ++ back =
-    sym (ap (λ writes. writes ++ back) (ap journal_of step.effects_are ∙ written-segment setting (settled_at old) step.made _)) in (
-      last.0,
-      subst (λ writes. Goes old.state (Stands old.rules ∷ sets) writes) made (
-        segment (Stands old.rules) (Stands new) sets old.state step.made back (first-set setting last.0 new [] Nothing acts) step.segment.hitless.on_the_way.during
-            (shows-first (state_after old.state step.made) setting last.0 new acts step.segment.hitless.after) last.1.0,
-        ends-behind old.state (Stands old.rules) sets step.made back shown last.1.1,
-      ),
-    )
-
--- one that crashes and is gone on with
-goes-restarted : (setting : Setting) (old : Progress) (after : ℕ) (front : List Effect) (mid : Progress) (acts : List Act) (back : List Write) → IsShown old → Restarts setting (settled_at old) after front mid → Later setting mid acts back
-    → (backs : List Bool) × Goes old.state (Stands old.rules ∷ sets_through setting backs (set_after old.rules (settled_at old).batch) [] Nothing acts) (journal_of front ++ back)
-goes-restarted setting old after front mid acts back shown step more =
-    let new : List Rule = set_after old.rules (settled_at old).batch in
-    let P : Progress → Type 0 = λ p. Later setting p acts back in
-    let made : List Write = take after step.made ++ step.rest in
-    let shows : Shows (state_after old.state made) new = subst (λ (now : State). Shows now new) (sym (state_after-append old.state (take after step.made) step.rest)) step.goes_on.after in
-    let last = subst P step.new_is more shows in
-    let sets : List Led = sets_through setting last.0 new [] Nothing acts in
-    let same : made ++ back ≡ journal_of front ++ back = sym (ap (λ writes. writes ++ back) (written-restarts setting (settled_at old) mid after front step)) in
-    let during : (n : ℕ) → ShowsOldOrNew (state_after old.state (take n made)) old.rules new =
-    joined old.rules new old.state step.made step.rest after step.crash.more step.crash.segment.hitless.on_the_way.during step.goes_on.during in (
-      last.0,
-      subst (λ writes. Goes old.state (Stands old.rules ∷ sets) writes) same (
-        segment (Stands old.rules) (Stands new) sets old.state made back (first-set setting last.0 new [] Nothing acts) during (shows-first (state_after old.state made) setting last.0 new acts shows) last.1.0,
-        ends-behind old.state (Stands old.rules) sets made back shown last.1.1,
-      ),
-    )
-
 -- on the way back each key has the new answer or the old one
 shows-back : (state : State) (old new : List Rule) → ShowsOldOrNew state old new → ShowsOldOrNew state new old
 shows-back state old new shows key valid = elim (shows key valid) [ inl is ↦ inr is | inr is ↦ inl is ]
@@ -280,116 +230,237 @@ back-passes state front n =
           ∙ ap (λ writes. state_after state (front ++ writes)) (sym (take_min n (undo_writes state front))) ∙ undo_passes state front few within,
     )
 
--- a trial that is taken back
-goes-return : (setting : Setting) (old : Progress) (most : ℕ) (front : List Effect) (mid : Progress) (acts : List Act) (back : List Write) → IsShown old → Returns setting (settled_at old) most front mid → Later setting mid acts back
-    → (backs : List Bool) × Goes old.state (Stands old.rules ∷ TakenBack (set_after old.rules (settled_at old).batch) ∷ sets_through setting backs old.rules [] Nothing acts) (journal_of front ++ back)
-goes-return setting old most front mid acts back shown step more =
-    let new : List Rule = set_after old.rules (settled_at old).batch in
-    let P : Progress → Type 0 = λ p. Later setting p acts back in
-    let last = subst P step.after more shown in
-    let sets : List Led = sets_through setting last.0 old.rules [] Nothing acts in
-    let there : List Write = take most step.made in
-    let undo : List Write = undo_writes old.state there in
-    let begins : state_after (state_after old.state there) undo ≡ old.state = sym (state_after-append old.state there undo) ∙ undo_ends old.state there in
-    let during : (n : ℕ) → ShowsOldOrNew (state_after old.state (take n step.made)) old.rules new = step.segment.hitless.on_the_way.during in
-    let on : (n : ℕ) → ShowsOldOrNew (state_after old.state (take n there)) old.rules new =
-    λ n. (let few = min n (length there) in
-    let enough = step.more in
-    let size : length there ≡ most = length-take-le most step.made (omega arith) in
-    let within : few ≤ most = subst (λ size. few ≤ size) size (min-le_right n (length there)) in
-    subst (λ writes. ShowsOldOrNew (state_after old.state writes) old.rules new) (sym (take-take few most step.made within) ∙ take_min n there) (during few)) in
-    let off : (n : ℕ) → ShowsOldOrNew (state_after (state_after old.state there) (take n undo)) new old.rules =
-    λ n. (let passes = back-passes old.state there n in
-    subst (λ state. ShowsOldOrNew state new old.rules) (sym passes.1) (shows-back (state_after old.state (take passes.0 there)) old.rules new (on passes.0))) in
-    let rest : Goes (state_after (state_after old.state there) undo) sets back = subst (λ state. Goes state sets back) (sym begins) last.1 in
-    let again : Goes (state_after old.state there) (TakenBack new ∷ sets) (undo ++ back) = (
-      segment (TakenBack new) (Stands old.rules) sets (state_after old.state there) undo back (first-set setting last.0 old.rules [] Nothing acts) off
-          (shows-first (state_after (state_after old.state there) undo) setting last.0 old.rules acts (subst (λ now. Shows now old.rules) (sym begins) shown)) rest.0,
-      ends-behind (state_after old.state there) (TakenBack new) sets undo back tt rest.1,
-    ) in
-    let made : there ++ (undo ++ back) ≡ journal_of front ++ back =
-    sym (append_assoc there undo back) ∙ sym (ap (λ writes. writes ++ back) (ap journal_of step.effects_are ∙ written-return setting (settled_at old) most step.made _)) in (
-      last.0,
-      subst (λ writes. Goes old.state (Stands old.rules ∷ TakenBack new ∷ sets) writes) made (
-        segment (Stands old.rules) (TakenBack new) (TakenBack new ∷ sets) old.state there (undo ++ back) refl on (λ rules stands. absurd (let bad : TakenBack new ≡ Stands rules = cc in cc)) again.0,
-        ends-behind old.state (Stands old.rules) (TakenBack new ∷ sets) there (undo ++ back) shown again.1,
-      ),
-    )
+-- what a run does that comes to its end, or is cut
+module _ (Ends : Type 0) where
+  -- on the way, and at its end where it comes to that
+  abbrev Goes : State → List Led → List Write → Type 0
+  Goes state sets writes = AnswersAllTheWay state sets writes × (Ends → EndsAtLast state sets writes)
 
--- one that is refused
-goes-refused : (setting : Setting) (old : Progress) (reason : Verdict) (front : List Effect) (mid : Progress) (acts : List Act) (back : List Write) → IsShown old → Refuses setting (settled_at old) reason front mid → Later setting mid acts back
-    → (backs : List Bool) × Goes old.state (sets_through setting backs old.rules [] Nothing acts) (journal_of front ++ back)
-goes-refused setting old reason front mid acts back shown step more =
-    let P : Progress → Type 0 = λ p. Later setting p acts back in
-    let last = subst P step.1 more shown in
-    (last.0, subst (λ writes. Goes old.state (sets_through setting last.0 old.rules [] Nothing acts) writes) (sym (ap (λ effects. journal_of effects ++ back) step.0)) last.1)
+  -- what acts do from where a run stands, with some trials taken back
+  abbrev GoesBy : Setting → List Bool → Progress → List Act → List Write → Type 0
+  GoesBy setting backs old acts writes = Goes old.state (sets_through setting backs old.rules old.batch old.asked acts) writes
 
-goes-judged : (setting : Setting) (old : Progress) (is : Verdict) (front : List Effect) (mid : Progress) (acts : List Act) (back : List Write)
-    → IsShown old → Judged Commits setting (settled_at old) is front mid → Later setting mid acts back
-    → (backs : List Bool) × Goes old.state (sets_judged setting backs old.rules (settled_at old).batch acts is) (journal_of front ++ back)
-goes-judged setting old Accepted front mid acts back shown step more = goes-commit setting old front mid acts back shown step more
-goes-judged setting old (Unsound fault) front mid acts back shown step more = goes-refused setting old (Unsound fault) front mid acts back shown step more
-goes-judged setting old (OutOfBits field needed free) front mid acts back shown step more = goes-refused setting old (OutOfBits field needed free) front mid acts back shown step more
-goes-judged setting old (OutOfSlots needed free) front mid acts back shown step more = goes-refused setting old (OutOfSlots needed free) front mid acts back shown step more
+  abbrev GoesOn : Setting → Progress → List Act → List Write → Type 0
+  GoesOn setting old acts writes = (backs : List Bool) × GoesBy setting backs old acts writes
 
-goes-tried : (most : ℕ) (setting : Setting) (old : Progress) (is : Verdict) (front : List Effect) (mid : Progress) (acts : List Act) (back : List Write)
-    → IsShown old → Judged (Tries most) setting (settled_at old) is front mid → Later setting mid acts back
-    → (backs : List Bool) × Goes old.state (trial_judged setting backs old.rules (settled_at old).batch acts is) (journal_of front ++ back)
-goes-tried most setting old Accepted front mid acts back shown (inl commits) more =
-    let last = goes-commit setting old front mid acts back shown commits.0 more in (false ∷ last.0, last.1)
-goes-tried most setting old Accepted front mid acts back shown (inr returns) more =
-    let last = goes-return setting old most front mid acts back shown returns more in (true ∷ last.0, last.1)
-goes-tried most setting old (Unsound fault) front mid acts back shown step more = goes-refused setting old (Unsound fault) front mid acts back shown step more
-goes-tried most setting old (OutOfBits field needed free) front mid acts back shown step more = goes-refused setting old (OutOfBits field needed free) front mid acts back shown step more
-goes-tried most setting old (OutOfSlots needed free) front mid acts back shown step more = goes-refused setting old (OutOfSlots needed free) front mid acts back shown step more
+  -- what comes behind a commit
+  abbrev Later : Setting → Progress → List Act → List Write → Type 0
+  Later setting mid acts back = IsShown mid → GoesOn setting mid acts back
 
-goes-crashed : (after : ℕ) (setting : Setting) (old : Progress) (is : Verdict) (front : List Effect) (mid : Progress) (acts : List Act) (back : List Write)
-    → IsShown old → Judged (Crashes after) setting (settled_at old) is front mid → Later setting mid acts back
-    → (backs : List Bool) × Goes old.state (sets_judged setting backs old.rules (settled_at old).batch acts is) (journal_of front ++ back)
-goes-crashed after setting old Accepted front mid acts back shown (inl commits) more = goes-commit setting old front mid acts back shown commits.0 more
-goes-crashed after setting old Accepted front mid acts back shown (inr restarts) more = goes-restarted setting old after front mid acts back shown restarts more
-goes-crashed after setting old (Unsound fault) front mid acts back shown step more = goes-refused setting old (Unsound fault) front mid acts back shown step more
-goes-crashed after setting old (OutOfBits field needed free) front mid acts back shown step more = goes-refused setting old (OutOfBits field needed free) front mid acts back shown step more
-goes-crashed after setting old (OutOfSlots needed free) front mid acts back shown step more = goes-refused setting old (OutOfSlots needed free) front mid acts back shown step more
+  -- a commit that finishes
+  goes-commit : (setting : Setting) (old : Progress) (front : List Effect) (mid : Progress) (acts : List Act) (back : List Write) → IsShown old → Commits setting (settled_at old) front mid → Later setting mid acts back
+      → (backs : List Bool) × Goes old.state (Stands old.rules ∷ sets_through setting backs (set_after old.rules (settled_at old).batch) [] Nothing acts) (journal_of front ++ back)
+  goes-commit setting old front mid acts back shown step more =
+      let new : List Rule = set_after old.rules (settled_at old).batch in
+      let P : Progress → Type 0 = λ p. Later setting p acts back in
+      let last = subst P step.after more step.segment.hitless.after in
+      let sets : List Led = sets_through setting last.0 new [] Nothing acts in
+      let made : step.made ++ back ≡ journal_of front ++ back =
+      sym (ap (λ writes. writes ++ back) (ap journal_of step.effects_are ∙ written-segment setting (settled_at old) step.made _)) in (
+        last.0,
+        subst (λ writes. Goes old.state (Stands old.rules ∷ sets) writes) made (
+          segment (Stands old.rules) (Stands new) sets old.state step.made back (first-set setting last.0 new [] Nothing acts) step.segment.hitless.on_the_way.during
+              (shows-first (state_after old.state step.made) setting last.0 new acts step.segment.hitless.after) last.1.0,
+          λ ends. ends-behind old.state (Stands old.rules) sets step.made back shown (last.1.1 ends),
+        ),
+      )
 
--- an act that does nothing to the device
-goes-still : (setting : Setting) (old : Progress) (act : Act) (front : List Effect) (mid now : Progress) (acts : List Act) (back : List Write) → journal_of front ≡ [] → mid ≡ now → IsShown now
-    → (GoesOn setting now acts back → GoesOn setting old (act ∷ acts) back) → Later setting mid acts back → GoesOn setting old (act ∷ acts) (journal_of front ++ back)
-goes-still setting old act front mid now acts back none same shown goes more =
-    let P : Progress → Type 0 = λ p. Later setting p acts back in
-    subst (λ writes. GoesOn setting old (act ∷ acts) (writes ++ back)) (sym none) (goes (subst P same more shown))
+  -- one in two parts
+  goes-two : (setting : Setting) (old : Progress) (front : List Effect) (mid : Progress) (acts : List Act) (back : List Write) → IsShown old → StepsInTwo setting old front mid → Later setting mid acts back
+      → (backs : List Bool) × Goes old.state (Stands old.rules ∷ sets_through setting backs (set_after old.rules (settled_at old).batch) [] Nothing acts) (journal_of front ++ back)
+  goes-two setting old front mid acts back shown two more =
+      let new : List Rule = set_after old.rules (settled_at old).batch in
+      let step = makes-both setting old two.right front mid two in
+      let P : Progress → Type 0 = λ p. Later setting p acts back in
+      let last = subst P step.after more step.hitless.after in
+      let sets : List Led = sets_through setting last.0 new [] Nothing acts in
+      let made : step.made ++ back ≡ journal_of front ++ back = sym (ap (λ writes. writes ++ back) step.written) in (
+        last.0,
+        subst (λ writes. Goes old.state (Stands old.rules ∷ sets) writes) made (
+          segment (Stands old.rules) (Stands new) sets old.state step.made back (first-set setting last.0 new [] Nothing acts) step.hitless.on_the_way.during
+              (shows-first (state_after old.state step.made) setting last.0 new acts step.hitless.after) last.1.0,
+          λ ends. ends-behind old.state (Stands old.rules) sets step.made back shown (last.1.1 ends),
+        ),
+      )
 
--- one act and those behind it
-goes-step : (setting : Setting) (old : Progress) (act : Act) (front : List Effect) (mid : Progress) (acts : List Act) (back : List Write)
-    → IsShown old → HasEffects setting old act front mid → Later setting mid acts back → GoesOn setting old (act ∷ acts) (journal_of front ++ back)
-goes-step setting old (Command change) front mid acts back shown step more = goes-still setting old (Command change) front mid _ acts back (ap journal_of step.0) step.1 shown (λ goes. goes) more
-goes-step setting old (Ask request) front mid acts back shown step more = goes-still setting old (Ask request) front mid _ acts back (ap journal_of step.0) step.1 shown (λ goes. goes) more
-goes-step setting old All front mid acts back shown step more = goes-still setting old All front mid _ acts back (ap journal_of step.0) step.1 shown (λ goes. goes) more
-goes-step setting old (Probe key) front mid acts back shown step more = goes-still setting old (Probe key) front mid _ acts back (ap journal_of step.0) step.1 shown (λ goes. goes) more
-goes-step setting old (Packet key) front mid acts back shown step more =
-    goes-still setting old (Packet key) front mid _ acts back (ap journal_of step.0 ∙ packet-still setting (answer old.rules key)) step.1 shown (λ goes. goes) more
-goes-step setting old Commit front mid acts back shown step more =
-    goes-judged setting old (pending_verdict setting old) front mid acts back shown step more
-goes-step setting old (Trial most) front mid acts back shown step more =
-    goes-tried most setting old (pending_verdict setting old) front mid acts back shown step more
-goes-step setting old (Crash after) front mid acts back shown step more =
-    goes-crashed after setting old (pending_verdict setting old) front mid acts back shown step more
+  -- one that crashes and is gone on with
+  goes-restarted : (setting : Setting) (old : Progress) (after : ℕ) (front : List Effect) (mid : Progress) (acts : List Act) (back : List Write) → IsShown old → Restarts setting (settled_at old) after front mid → Later setting mid acts back
+      → (backs : List Bool) × Goes old.state (Stands old.rules ∷ sets_through setting backs (set_after old.rules (settled_at old).batch) [] Nothing acts) (journal_of front ++ back)
+  goes-restarted setting old after front mid acts back shown step more =
+      let new : List Rule = set_after old.rules (settled_at old).batch in
+      let P : Progress → Type 0 = λ p. Later setting p acts back in
+      let made : List Write = take after step.made ++ step.rest in
+      let shows : Shows (state_after old.state made) new = subst (λ (now : State). Shows now new) (sym (state_after-append old.state (take after step.made) step.rest)) step.goes_on.after in
+      let last = subst P step.new_is more shows in
+      let sets : List Led = sets_through setting last.0 new [] Nothing acts in
+      let same : made ++ back ≡ journal_of front ++ back = sym (ap (λ writes. writes ++ back) (written-restarts setting (settled_at old) mid after front step)) in
+      let during : (n : ℕ) → ShowsOldOrNew (state_after old.state (take n made)) old.rules new =
+      joined old.rules new old.state step.made step.rest after step.crash.more step.crash.segment.hitless.on_the_way.during step.goes_on.during in (
+        last.0,
+        subst (λ writes. Goes old.state (Stands old.rules ∷ sets) writes) same (
+          segment (Stands old.rules) (Stands new) sets old.state made back (first-set setting last.0 new [] Nothing acts) during (shows-first (state_after old.state made) setting last.0 new acts shows) last.1.0,
+          λ ends. ends-behind old.state (Stands old.rules) sets made back shown (last.1.1 ends),
+        ),
+      )
 
-goes : (setting : Setting) (old : Progress) (acts : List Act) (effects : List Effect) (new : Progress) → IsShown old → Run setting old acts effects new → GoesOn setting old acts (journal_of effects)
-goes setting old [] effects new shown run =
-    subst (λ writes. GoesOn setting old [] writes) (sym (ap journal_of run.0))
-    ([], (stays old.state old.rules (Stands old.rules ∷ []) refl shown, record { front = []; rules = old.rules; sets_are = refl; shows = shown; in_turn = ([], [], refl, shown, tt) }))
-goes setting old (act ∷ acts) effects new shown (front, mid, back, step, rest, whole) =
-    subst (λ writes. GoesOn setting old (act ∷ acts) writes) (sym (ap journal_of whole ∙ written-append front back))
-    (goes-step setting old act front mid acts (journal_of back) shown step (λ mid_shown. goes setting mid acts back new mid_shown rest))
+  -- a trial that is taken back
+  goes-return : (setting : Setting) (old : Progress) (most : ℕ) (front : List Effect) (mid : Progress) (acts : List Act) (back : List Write) → IsShown old → Returns setting (settled_at old) most front mid → Later setting mid acts back
+      → (backs : List Bool) × Goes old.state (Stands old.rules ∷ TakenBack (set_after old.rules (settled_at old).batch) ∷ sets_through setting backs old.rules [] Nothing acts) (journal_of front ++ back)
+  goes-return setting old most front mid acts back shown step more =
+      let new : List Rule = set_after old.rules (settled_at old).batch in
+      let P : Progress → Type 0 = λ p. Later setting p acts back in
+      let last = subst P step.after more shown in
+      let sets : List Led = sets_through setting last.0 old.rules [] Nothing acts in
+      let there : List Write = take most step.made in
+      let undo : List Write = undo_writes old.state there in
+      let begins : state_after (state_after old.state there) undo ≡ old.state = sym (state_after-append old.state there undo) ∙ undo_ends old.state there in
+      let during : (n : ℕ) → ShowsOldOrNew (state_after old.state (take n step.made)) old.rules new = step.segment.hitless.on_the_way.during in
+      let on : (n : ℕ) → ShowsOldOrNew (state_after old.state (take n there)) old.rules new =
+      λ n. (let few = min n (length there) in
+      let enough = step.more in
+      let size : length there ≡ most = length-take-le most step.made (omega arith) in
+      let within : few ≤ most = subst (λ size. few ≤ size) size (min-le_right n (length there)) in
+      subst (λ writes. ShowsOldOrNew (state_after old.state writes) old.rules new) (sym (take-take few most step.made within) ∙ take_min n there) (during few)) in
+      let off : (n : ℕ) → ShowsOldOrNew (state_after (state_after old.state there) (take n undo)) new old.rules =
+      λ n. (let passes = back-passes old.state there n in
+      subst (λ state. ShowsOldOrNew state new old.rules) (sym passes.1) (shows-back (state_after old.state (take passes.0 there)) old.rules new (on passes.0))) in
+      let rest : Goes (state_after (state_after old.state there) undo) sets back = subst (λ state. Goes state sets back) (sym begins) last.1 in
+      let again : Goes (state_after old.state there) (TakenBack new ∷ sets) (undo ++ back) = (
+        segment (TakenBack new) (Stands old.rules) sets (state_after old.state there) undo back (first-set setting last.0 old.rules [] Nothing acts) off
+            (shows-first (state_after (state_after old.state there) undo) setting last.0 old.rules acts (subst (λ now. Shows now old.rules) (sym begins) shown)) rest.0,
+        λ ends. ends-behind (state_after old.state there) (TakenBack new) sets undo back tt (rest.1 ends),
+      ) in
+      let made : there ++ (undo ++ back) ≡ journal_of front ++ back =
+      sym (append_assoc there undo back) ∙ sym (ap (λ writes. writes ++ back) (ap journal_of step.effects_are ∙ written-return setting (settled_at old) most step.made _)) in (
+        last.0,
+        subst (λ writes. Goes old.state (Stands old.rules ∷ TakenBack new ∷ sets) writes) made (
+          segment (Stands old.rules) (TakenBack new) (TakenBack new ∷ sets) old.state there (undo ++ back) refl on (λ rules stands. absurd (let bad : TakenBack new ≡ Stands rules = cc in cc)) again.0,
+          λ ends. ends-behind old.state (Stands old.rules) (TakenBack new ∷ sets) there (undo ++ back) shown (again.1 ends),
+        ),
+      )
+
+  -- one that is refused
+  goes-refused : (setting : Setting) (old : Progress) (reason : Verdict) (front : List Effect) (mid : Progress) (acts : List Act) (back : List Write) → IsShown old → Refuses setting (settled_at old) reason front mid → Later setting mid acts back
+      → (backs : List Bool) × Goes old.state (sets_through setting backs old.rules [] Nothing acts) (journal_of front ++ back)
+  goes-refused setting old reason front mid acts back shown step more =
+      let P : Progress → Type 0 = λ p. Later setting p acts back in
+      let last = subst P step.1 more shown in
+      (last.0, subst (λ writes. Goes old.state (sets_through setting last.0 old.rules [] Nothing acts) writes) (sym (ap (λ effects. journal_of effects ++ back) step.0)) last.1)
+
+  goes-judged : (setting : Setting) (old : Progress) (is : Verdict) (front : List Effect) (mid : Progress) (acts : List Act) (back : List Write)
+      → IsShown old → Judged Commits setting (settled_at old) is front mid → Later setting mid acts back
+      → (backs : List Bool) × Goes old.state (sets_judged setting backs old.rules (settled_at old).batch acts is) (journal_of front ++ back)
+  goes-judged setting old Accepted front mid acts back shown step more = goes-commit setting old front mid acts back shown step more
+  goes-judged setting old (Unsound fault) front mid acts back shown step more = goes-refused setting old (Unsound fault) front mid acts back shown step more
+  goes-judged setting old (OutOfBits field needed free) front mid acts back shown step more = goes-refused setting old (OutOfBits field needed free) front mid acts back shown step more
+  goes-judged setting old (OutOfSlots needed free) front mid acts back shown step more = goes-refused setting old (OutOfSlots needed free) front mid acts back shown step more
+
+  goes-committed : (in_two : Bool) (setting : Setting) (old : Progress) (front : List Effect) (mid : Progress) (acts : List Act) (back : List Write)
+      → IsShown old → CommitsBy in_two setting old front mid → Later setting mid acts back
+      → (backs : List Bool) × Goes old.state (sets_judged setting backs old.rules (settled_at old).batch acts (elim in_two [ true ↦ Accepted | false ↦ pending_verdict setting old ])) (journal_of front ++ back)
+  goes-committed true setting old front mid acts back shown two more = goes-two setting old front mid acts back shown two more
+  goes-committed false setting old front mid acts back shown step more = goes-judged setting old (pending_verdict setting old) front mid acts back shown step more
+
+  goes-tried : (most : ℕ) (setting : Setting) (old : Progress) (is : Verdict) (front : List Effect) (mid : Progress) (acts : List Act) (back : List Write)
+      → IsShown old → Judged (Tries most) setting (settled_at old) is front mid → Later setting mid acts back
+      → (backs : List Bool) × Goes old.state (trial_judged setting backs old.rules (settled_at old).batch acts is) (journal_of front ++ back)
+  goes-tried most setting old Accepted front mid acts back shown (inl commits) more =
+      let last = goes-commit setting old front mid acts back shown commits.0 more in (false ∷ last.0, last.1)
+  goes-tried most setting old Accepted front mid acts back shown (inr returns) more =
+      let last = goes-return setting old most front mid acts back shown returns more in (true ∷ last.0, last.1)
+  goes-tried most setting old (Unsound fault) front mid acts back shown step more = goes-refused setting old (Unsound fault) front mid acts back shown step more
+  goes-tried most setting old (OutOfBits field needed free) front mid acts back shown step more = goes-refused setting old (OutOfBits field needed free) front mid acts back shown step more
+  goes-tried most setting old (OutOfSlots needed free) front mid acts back shown step more = goes-refused setting old (OutOfSlots needed free) front mid acts back shown step more
+
+  goes-crashed : (after : ℕ) (setting : Setting) (old : Progress) (is : Verdict) (front : List Effect) (mid : Progress) (acts : List Act) (back : List Write)
+      → IsShown old → Judged (Crashes after) setting (settled_at old) is front mid → Later setting mid acts back
+      → (backs : List Bool) × Goes old.state (sets_judged setting backs old.rules (settled_at old).batch acts is) (journal_of front ++ back)
+  goes-crashed after setting old Accepted front mid acts back shown (inl commits) more = goes-commit setting old front mid acts back shown commits.0 more
+  goes-crashed after setting old Accepted front mid acts back shown (inr restarts) more = goes-restarted setting old after front mid acts back shown restarts more
+  goes-crashed after setting old (Unsound fault) front mid acts back shown step more = goes-refused setting old (Unsound fault) front mid acts back shown step more
+  goes-crashed after setting old (OutOfBits field needed free) front mid acts back shown step more = goes-refused setting old (OutOfBits field needed free) front mid acts back shown step more
+  goes-crashed after setting old (OutOfSlots needed free) front mid acts back shown step more = goes-refused setting old (OutOfSlots needed free) front mid acts back shown step more
+
+  -- an act that does nothing to the device
+  goes-still : (setting : Setting) (old : Progress) (act : Act) (front : List Effect) (mid now : Progress) (acts : List Act) (back : List Write) → journal_of front ≡ [] → mid ≡ now → IsShown now
+      → (GoesOn setting now acts back → GoesOn setting old (act ∷ acts) back) → Later setting mid acts back → GoesOn setting old (act ∷ acts) (journal_of front ++ back)
+  goes-still setting old act front mid now acts back none same shown goes more =
+      let P : Progress → Type 0 = λ p. Later setting p acts back in
+      subst (λ writes. GoesOn setting old (act ∷ acts) (writes ++ back)) (sym none) (goes (subst P same more shown))
+
+  -- one act and those behind it
+  goes-step : (setting : Setting) (old : Progress) (act : Act) (front : List Effect) (mid : Progress) (acts : List Act) (back : List Write)
+      → IsShown old → StepsBy setting old act front mid → Later setting mid acts back → GoesOn setting old (act ∷ acts) (journal_of front ++ back)
+  goes-step setting old (Command change) front mid acts back shown step more = goes-still setting old (Command change) front mid _ acts back (ap journal_of step.0) step.1 shown (λ goes. goes) more
+  goes-step setting old (Ask request) front mid acts back shown step more = goes-still setting old (Ask request) front mid _ acts back (ap journal_of step.0) step.1 shown (λ goes. goes) more
+  goes-step setting old All front mid acts back shown step more = goes-still setting old All front mid _ acts back (ap journal_of step.0) step.1 shown (λ goes. goes) more
+  goes-step setting old (Probe key) front mid acts back shown step more = goes-still setting old (Probe key) front mid _ acts back (ap journal_of step.0) step.1 shown (λ goes. goes) more
+  goes-step setting old (Packet key) front mid acts back shown step more =
+      goes-still setting old (Packet key) front mid _ acts back (ap journal_of step.0 ∙ packet-still setting (answer old.rules key)) step.1 shown (λ goes. goes) more
+  goes-step setting old Commit front mid acts back shown step more = goes-committed (parts_at setting old) setting old front mid acts back shown step more
+  goes-step setting old (Trial most) front mid acts back shown step more =
+      goes-tried most setting old (pending_verdict setting old) front mid acts back shown step more
+  goes-step setting old (Crash after) front mid acts back shown step more =
+      goes-crashed after setting old (pending_verdict setting old) front mid acts back shown step more
+
+  -- a run, and what comes behind it
+  pub goes : (setting : Setting) (old : Progress) (acts : List Act) (effects : List Effect) (new : Progress) → IsShown old → RunBy setting old acts effects new
+      → (later : List Act) (tail : List Write) → Later setting new later tail → GoesOn setting old (acts ++ later) (journal_of effects ++ tail)
+  goes setting old [] effects new shown run later tail more =
+      let P : Progress → Type 0 = λ p. Later setting p later tail in
+      subst (λ writes. GoesOn setting old later writes) (sym (ap (λ (some : List Effect). journal_of some ++ tail) run.0)) (subst P run.1 more shown)
+  goes setting old (act ∷ acts) effects new shown (front, mid, back, step, rest, whole) later tail more =
+      subst (λ writes. GoesOn setting old (act ∷ (acts ++ later)) writes)
+      (sym (append_assoc (journal_of front) (journal_of back) tail) ∙ sym (ap (λ writes. writes ++ tail) (ap journal_of whole ∙ written-append front back)))
+      (goes-step setting old act front mid (acts ++ later) (journal_of back ++ tail) shown step (λ mid_shown. goes setting mid acts back new mid_shown rest later tail more))
 
 -- what a run over some acts shows
 abbrev pub RunGoes : Setting → ℕ → List Bool → List Act → List Effect → Type 0
 RunGoes setting slots backs acts effects =
     AnswersAllTheWay (blank slots) (sets_through setting backs [] [] Nothing acts) (journal_of effects) × EndsAtLast (blank slots) (sets_through setting backs [] [] Nothing acts) (journal_of effects)
 
-pub run-goes : (setting : Setting) (slots : ℕ) (acts : List Act) (effects : List Effect) (last : Progress) → Runs setting slots acts effects last → (backs : List Bool) × RunGoes setting slots backs acts effects
-run-goes setting slots acts effects last run = goes setting (start slots) acts effects last (blank_shows slots) run
+-- nothing more is done
+done-here : (setting : Setting) (here : Progress) → Later (Unit {0}) setting here [] []
+done-here setting here shown = (
+  [],
+  (
+    stays here.state here.rules (Stands here.rules ∷ []) refl shown,
+    λ ends. record { front = []; rules = here.rules; sets_are = refl; shows = shown; in_turn = ([], [], refl, shown, tt) },
+  ),
+)
+
+pub run-goes : (setting : Setting) (slots : ℕ) (acts : List Act) (effects : List Effect) (last : Progress) → RunsBy setting slots acts effects last → (backs : List Bool) × RunGoes setting slots backs acts effects
+run-goes setting slots acts effects last run =
+    let on = goes (Unit {0}) setting (start slots) acts effects last (blank_shows slots) run [] [] (done-here setting last) in
+    let at : GoesOn (Unit {0}) setting (start slots) acts (journal_of effects) =
+    subst (λ (some : List Act). GoesOn (Unit {0}) setting (start slots) some (journal_of effects)) (append-nil acts)
+    (subst (λ writes. GoesOn (Unit {0}) setting (start slots) (acts ++ []) writes) (append-nil (journal_of effects)) on) in
+    (at.0, (at.1.0, at.1.1 tt))
+
+-- Where a run is cut within a commit, by what each of the writes of that leaves: the old or the new answer.
+halfway : (state : State) (old new : List Rule) (sets : List Led) (writes : List Write) → slice_get sets 0 ≡ Some (Stands new)
+    → ((n : ℕ) → ShowsOldOrNew (state_after state (take n writes)) old new) → AnswersAllTheWay state (Stands old ∷ sets) writes
+halfway state old new sets writes first during = record {
+  place = λ n. 0;
+  rises = λ n m less. omega arith;
+  answers = λ n. (old, new, refl, inl (ap (option_map rules_in) first), during n);
+  whole = λ k n some is past. absurd (let none : k < 0 = past.0 in omega arith);
+}
+
+pub cut-within : (setting : Setting) (slots : ℕ) (done : List Act) (effects : List Effect) (before : Progress) → RunsBy setting slots done effects before → (act : Act) (later : List Act) (new : List Rule) (tail : List Write)
+    → sets_through setting [] before.rules before.batch before.asked (act ∷ later) ≡ Stands before.rules ∷ sets_through setting [] new [] Nothing later
+    → ((n : ℕ) → ShowsOldOrNew (state_after before.state (take n tail)) before.rules new)
+    → (backs : List Bool) × AnswersAllTheWay (blank slots) (sets_through setting backs [] [] Nothing (done ++ act ∷ later)) (journal_of effects ++ tail)
+cut-within setting slots done effects before run act later new tail sets during =
+    let on = goes ⊥ setting (start slots) done effects before (blank_shows slots) run (act ∷ later) tail (λ shown. (
+      [],
+      (
+        subst (λ (some : List Led). AnswersAllTheWay before.state some tail) (sym sets)
+            (halfway before.state before.rules new (sets_through setting [] new [] Nothing later) tail (first-set setting [] new [] Nothing later) during),
+        λ ends. absurd ends,
+      ),
+    )) in
+    (on.0, on.1.0)
 
 -- where a run is cut in the middle of an act, by what it would have come to
 pub cut-answers : (setting : Setting) (slots : ℕ) (backs : List Bool) (done : List Act) (act : Act) (behind all : List Act) (body front back : List Effect) → all ≡ done ++ act ∷ behind

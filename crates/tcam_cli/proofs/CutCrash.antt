@@ -71,7 +71,7 @@ as-commit setting before after made accepted crash = record {
     end = flushed setting.family (probes_told setting.json (settled_at before).probes) (length (writes_in actions)) (state_after (settled_at before).state (writes_in actions)) (waiting_after setting.depth 0 actions)
 
     line : List Effect
-    line = Prints (done_line setting.json ((settled_at before).commits + 1) crash.counts) ∷ []
+    line = Prints (done_line setting.json (settled_at before).early ((settled_at before).commits + 1) crash.counts) ∷ []
 
     parts : carried_so_far setting (settled_at before) actions ≡ front ++ behind
     parts = ap (carried_so_far setting (settled_at before)) (sym (front-and-rest after actions)) ∙ carried-append setting (settled_at before) first rest

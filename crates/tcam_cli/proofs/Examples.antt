@@ -44,7 +44,7 @@ use Rattle.tcam_cli.specs.CommandLine.{script_setting}
 use Rattle.tcam_cli.specs.Headline.{NoJob, Reads, IsCarriedOut}
 
 abbrev routes : ℕ → Setting
-routes slots = script_setting Route slots Cover Middle false 0 false false
+routes slots = script_setting Route slots Cover Middle false 0 false false false
 
 abbrev feed : List ℕ → List ℕ
 feed line = line ++ 10 ∷ []

@@ -18,8 +18,9 @@ use Rattle.replay.specs.Reports.{fault_told}
 use Rattle.replay.specs.Effects.{Setting}
 use Rattle.settled_changes.specs.Requested.{changes_in}
 use Rattle.replay.specs.Run.{Progress}
-use Rattle.replay.specs.Carried.{IsAt, Carries, Wants}
+use Rattle.replay.specs.Carried.{IsAt}
 use Rattle.replay.specs.Running.{Running, setting_of}
+use Rattle.tcam_cli.specs.InTwo.{CarriesBy, WantsBy}
 use Rattle.tcam_cli.specs.Headline.{run_kind, script_so_far}
 use Rattle.tcam_cli.specs.Readings.{reading_by}
 use Rattle.tcam_cli.specs.Rounds.{status_of_fault}
@@ -50,7 +51,7 @@ module _ (setting : Setting) (slots : ℕ) (bytes : List ℕ) (old : HeldBytes) 
   at = run-at setting slots (acts_only s.acts) s.effects last events s.run s.events_is
 
   -- it is carried out
-  pub goes-on : (next : Progress) → (IsAt slots events last → Carries setting last act next events events_new before after) → RunsOn (run_kind setting slots) s.acts bytes new now next events_new start after
+  pub goes-on : (next : Progress) → (IsAt slots events last → CarriesBy setting last act next events events_new before after) → RunsOn (run_kind setting slots) s.acts bytes new now next events_new start after
   goes-on next carries =
       let made = carries at in
       exits.goes-on (run_kind setting slots) joins bytes old left last events start before s line new now again hands act is room events_new after next made.effects made.step
@@ -66,7 +67,7 @@ module _ (setting : Setting) (slots : ℕ) (bytes : List ℕ) (old : HeldBytes) 
       act later acts events_new after why stops)
       (not-whole why)
 
-  pub wants-next : Wants setting last act events events_new before after → WantsNext (run_kind setting slots) s.acts bytes last events events_new before after
+  pub wants-next : WantsBy setting last act events events_new before after → WantsNext (run_kind setting slots) s.acts bytes last events events_new before after
   wants-next wants =
       exits.wants-next (run_kind setting slots) joins bytes old left last events start before s line new now again hands act is room events_new after wants.effects wants.needs
       (does-of setting slots wants.effects [] events events_new before after wants.does)

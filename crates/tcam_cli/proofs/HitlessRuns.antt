@@ -7,6 +7,8 @@ use Rattle.tcam_device.specs.declared.Action.{Action}
 use Rattle.tcam_device.specs.declared.Action.TheVariants.{Written, Drained}
 use Rattle.tcam_device.specs.Flight.{writes_in}
 use Rattle.tcam_device.specs.State.{State, apply, blank, state_after}
+use Rattle.tcam_device.specs.Hitless.{ShowsOldOrNew}
+use Rattle.rule_model.specs.declared.Rule.{Rule}
 use Rattle.rule_model.specs.RuleSet.{answer}
 use Rattle.replay.specs.declared.Act.{Act}
 use Rattle.replay.specs.declared.Act.TheVariants.{Command, Ask, All, Probe, Packet, Commit, Trial, Crash}
@@ -15,7 +17,8 @@ use Rattle.replay.specs.Script.{Script, script_kind, script_of}
 use Rattle.replay.specs.Effects.{Setting, Effect, Acts, Prints, journal_of, traced, trace_line, deed_told, drain_told, write_told, searches_of, flushed, searched_after, waiting_after, effects_of}
 use Rattle.replay.specs.Fates.{IsCrash}
 use Rattle.settled_changes.specs.declared.requested.Requested.TheVariants.{Nothing}
-use Rattle.replay.specs.Run.{Progress, start, Commits, Tries, Crashes, actions_back, actions_before, actions_for, actions_over, carried, IsCutBeforeCrash, IsCutInStep, IsCutStep, Judged, HasEffects, Runs, TakesMemory, pending_verdict, settled_at}
+use Rattle.replay.specs.Run.{Progress, start, Commits, Tries, Crashes, actions_back, actions_before, actions_for, actions_over, carried, IsCutBeforeCrash, Judged, HasEffects, pending_verdict, settled_at}
+use Rattle.replay.specs.Early.{IsPartedAt, parts_at}
 use Rattle.replay.specs.Text.{aborted_line, drain_line, restarted_line}
 use Rattle.replay.specs.Reports.{done_line, packet_told}
 use Rattle.script_runs.specs.declared.Status.{Status}
@@ -25,12 +28,17 @@ use Rattle.script_runs.specs.Outcomes.{IsAtAct, IsEffectDue, IsOutOfMemory, IsOu
 use Rattle.tcam_cli.specs.Headline.{Job, NoJob, Tells, Reads, Makes, Verifies, run_kind, script_so_far, IsComplete, IsOutcome, IsCarriedOut}
 use Rattle.tcam_cli.specs.MadeScript.{made_script}
 use Rattle.tcam_cli.specs.Readings.{reading_by}
-use Rattle.tcam_cli.specs.AllTheWay.{sets_through, sets_of, AnswersAllTheWay, EndsAtLast, EndsAfter, CrashesNowhere, EndsAfterSome, IsNoProbe, TellsNoWrite, IsHitlessRun, IsHitlessJob}
+use Rattle.tcam_cli.specs.InTwo.{CommitTakes, RunsBy, TakesBy}
+use Rattle.tcam_cli.specs.AllTheWay.{MakesInOne, Stands, sets_through, sets_of, AnswersAllTheWay, EndsAtLast, EndsAfter, CrashesNowhere, EndsAfterSome, IsNoProbe, TellsNoWrite, IsHitlessRun, IsHitlessJob}
 use Rattle.replay.proofs.lines.Effects.{written-append}
+use Rattle.replay.proofs.lines.Written.{written-segment}
 use Rattle.replay.proofs.lines.Opened.{carried-words, so_far-words}
 use Rattle.tcam_cli.proofs.OneMore.{run-more, none-probed}
-use Rattle.tcam_cli.proofs.LedSets.{more-sets, same-sets}
-use Rattle.tcam_cli.proofs.AllTheWay.{RunGoes, cut-answers, run-goes, wider}
+use Rattle.tcam_cli.proofs.LedSets.{more-sets, sets_judged}
+use Rattle.tcam_cli.proofs.AllTheWay.{RunGoes, cut-answers, cut-within, run-goes, wider}
+use Rattle.tcam_cli.proofs.CutActs.{CutsInFirst, CutsSomewhere, CutsWithin, alone, cut-somewhere}
+use Rattle.tcam_cli.proofs.PartedWrites.{first-during, first-shows, front-shows, whole_set}
+use Rattle.tcam_cli.proofs.TwoParts.{parts-true}
 use Rattle.tcam_cli.proofs.CutCrash.{AsCommit, cut-as_commit, stops-as_commit}
 use Rattle.script_runs.proofs.FirstActs.{AreFirstActs, first-acts}
 
@@ -47,30 +55,41 @@ complete setting slots script status effects is =
     (goes.0, both.0, both.1)
 
 -- a run that is cut in the middle of an act, by all that this would have done
-abbrev WholeAct : (setting : Setting) (slots : ℕ) (script : Script) (effects : List Effect) (due : Effect) (at : IsAtAct (run_kind setting slots) script effects due) → IsCutInStep setting at.before at.act at.front due → Type 0
+abbrev WholeAct : (setting : Setting) (slots : ℕ) (script : Script) (effects : List Effect) (due : Effect) (at : IsAtAct (run_kind setting slots) script effects due) → CutsWithin setting at.before at.act at.front due → Type 0
 WholeAct setting slots script effects due at cut = (backs : List Bool) × RunGoes setting slots backs (at.done ++ at.act ∷ []) (at.body ++ (at.front ++ due ∷ cut.back))
 
-whole-act : (setting : Setting) (slots : ℕ) (script : Script) (effects : List Effect) (due : Effect) (at : IsAtAct (run_kind setting slots) script effects due) (cut : IsCutInStep setting at.before at.act at.front due) → WholeAct setting slots script effects due at cut
+whole-act : (setting : Setting) (slots : ℕ) (script : Script) (effects : List Effect) (due : Effect) (at : IsAtAct (run_kind setting slots) script effects due) (cut : CutsWithin setting at.before at.act at.front due) → WholeAct setting slots script effects due at cut
 whole-act setting slots script effects due at cut =
     run-goes setting slots (at.done ++ at.act ∷ []) (at.body ++ (at.front ++ due ∷ cut.back)) cut.after
     (run-more setting slots at.done at.body at.before at.act (at.front ++ due ∷ cut.back) cut.after at.run cut.step)
 
-in-step : (setting : Setting) (slots : ℕ) (script : Script) (effects : List Effect) (due : Effect) (at : IsAtAct (run_kind setting slots) script effects due) (cut : IsCutInStep setting at.before at.act at.front due) (whole : WholeAct setting slots script effects due at cut)
+in-step : (setting : Setting) (slots : ℕ) (script : Script) (effects : List Effect) (due : Effect) (at : IsAtAct (run_kind setting slots) script effects due) (cut : CutsWithin setting at.before at.act at.front due) (whole : WholeAct setting slots script effects due at cut)
     → AnswersAllTheWay (blank slots) (sets_of setting whole.0 script) (journal_of effects)
 in-step setting slots script effects due at cut whole =
     subst (λ effects. AnswersAllTheWay (blank slots) (sets_of setting whole.0 script) (journal_of effects)) (sym at.effects_are)
     (cut-answers setting slots whole.0 at.done at.act at.later (acts_of script) at.body at.front (due ∷ cut.back) at.acts whole.1)
 
--- or in the middle of a commit that crashes later, by all that a commit would have done
-as-commits : (setting : Setting) (slots : ℕ) (script : Script) (done : List Act) (after : ℕ) (later : List Act) (body front : List Effect) (before : Progress) → acts_of script ≡ done ++ Crash after ∷ later
-    → Runs setting slots done body before → AsCommit setting before front → AnswersSome setting slots script (journal_of (body ++ front))
-as-commits setting slots script done after later body front before acts run whole =
-    let goes = run-goes setting slots (done ++ Commit ∷ []) (body ++ (front ++ whole.back)) whole.after
-    (run-more setting slots done body before Commit (front ++ whole.back) whole.after run whole.step) in
-    let answers = cut-answers setting slots goes.0 done Commit later (done ++ Commit ∷ later) body front whole.back refl goes.1 in (
-      goes.0,
-      subst (λ sets. AnswersAllTheWay (blank slots) sets (journal_of (body ++ front))) (same-sets setting done after later goes.0 [] [] Nothing ∙ ap (sets_through setting goes.0 [] [] Nothing) (sym acts)) answers,
+-- or within a commit, by what each of its writes leaves: the old or the new answer
+within : (setting : Setting) (slots : ℕ) (script : Script) (done : List Act) (act : Act) (later : List Act) (body front : List Effect) (before : Progress) → acts_of script ≡ done ++ act ∷ later
+    → RunsBy setting slots done body before → (new : List Rule)
+    → sets_through setting [] before.rules before.batch before.asked (act ∷ later) ≡ Stands before.rules ∷ sets_through setting [] new [] Nothing later
+    → ((n : ℕ) → ShowsOldOrNew (state_after before.state (take n (journal_of front))) before.rules new) → AnswersSome setting slots script (journal_of (body ++ front))
+within setting slots script done act later body front before acts run new sets during =
+    let some = cut-within setting slots done body before run act later new (journal_of front) sets during in (
+      some.0,
+      subst (λ writes. AnswersAllTheWay (blank slots) (sets_of setting some.0 script) writes) (sym (written-append body front))
+          (subst (λ (all : List Act). AnswersAllTheWay (blank slots) (sets_through setting some.0 [] [] Nothing all) (journal_of body ++ journal_of front)) (sym acts) some.1),
     )
+
+-- of a commit that crashes later, by all that a commit would have done
+as-commits : (setting : Setting) (slots : ℕ) (script : Script) (done : List Act) (after : ℕ) (later : List Act) (body front : List Effect) (before : Progress) → acts_of script ≡ done ++ Crash after ∷ later
+    → RunsBy setting slots done body before → pending_verdict setting before ≡ Accepted → AsCommit setting before front → AnswersSome setting slots script (journal_of (body ++ front))
+as-commits setting slots script done after later body front before acts run accepted whole =
+    let commits : Commits setting (settled_at before) (front ++ whole.back) whole.after = subst (λ judged. Judged Commits setting (settled_at before) judged (front ++ whole.back) whole.after) accepted whole.step in
+    let written : journal_of (front ++ whole.back) ≡ commits.made = ap journal_of commits.effects_are ∙ written-segment setting (settled_at before) commits.made _ in
+    within setting slots script done (Crash after) later body front before acts run (whole_set before)
+    (ap (sets_judged setting [] before.rules (settled_at before).batch later) accepted)
+    (first-during before.state before.rules (whole_set before) (journal_of front) (journal_of whole.back) commits.made (sym written ∙ written-append front whole.back) commits.segment.hitless.on_the_way.during)
 
 -- the writes before a crash
 before-crash : (setting : Setting) (slots : ℕ) (script : Script) (effects : List Effect) (due : Effect) (at : IsAtAct (run_kind setting slots) script effects due) → IsCutBeforeCrash setting at.before at.act at.front due
@@ -84,14 +103,30 @@ before-crash setting slots script effects due at cut =
     } in
     let acts : acts_of script ≡ at.done ++ Crash cut.after ∷ at.later = at.acts ∙ ap (λ act. at.done ++ act ∷ at.later) cut.act_is in
     subst (λ effects. AnswersSome setting slots script (journal_of effects)) (sym at.effects_are)
-    (as-commits setting slots script at.done cut.after at.later at.body at.front at.before acts at.run first)
+    (as-commits setting slots script at.done cut.after at.later at.body at.front at.before acts at.run cut.accepted first)
+
+-- the writes of the first of two parts
+in-first : (setting : Setting) (slots : ℕ) (script : Script) (done later : List Act) (body front : List Effect) (before : Progress) → acts_of script ≡ done ++ Commit ∷ later
+    → RunsBy setting slots done body before → IsPartedAt setting before
+    → ((n : ℕ) → ShowsOldOrNew (state_after before.state (take n (journal_of front))) before.rules (whole_set before)) → AnswersSome setting slots script (journal_of (body ++ front))
+in-first setting slots script done later body front before acts run right during =
+    within setting slots script done Commit later body front before acts run (whole_set before)
+    (ap (λ in_two. sets_judged setting [] before.rules (settled_at before).batch later (elim in_two [ true ↦ Accepted | false ↦ pending_verdict setting before ])) (parts-true setting before right)) during
+
+cut-first : (setting : Setting) (slots : ℕ) (script : Script) (effects : List Effect) (due : Effect) (at : IsAtAct (run_kind setting slots) script effects due) → CutsInFirst setting at.before at.act at.front due
+    → AnswersSome setting slots script (journal_of effects)
+cut-first setting slots script effects due at cut =
+    let acts : acts_of script ≡ at.done ++ Commit ∷ at.later = at.acts ∙ ap (λ act. at.done ++ act ∷ at.later) cut.act_is in
+    subst (λ effects. AnswersSome setting slots script (journal_of effects)) (sym at.effects_are)
+    (in-first setting slots script at.done at.later at.body at.front at.before acts at.run cut.right (front-shows setting at.before cut.right at.front (due ∷ cut.back) cut.after cut.step))
 
 at-act : (setting : Setting) (slots : ℕ) (script : Script) (effects : List Effect) (due : Effect) (at : IsAtAct (run_kind setting slots) script effects due) → AnswersSome setting slots script (journal_of effects)
-at-act setting slots script effects due at = go at.cut
+at-act setting slots script effects due at = go (cut-somewhere setting at.before at.act at.front due at.cut)
   where
-    go : IsCutStep setting at.before at.act at.front due → AnswersSome setting slots script (journal_of effects)
+    go : CutsSomewhere setting at.before at.act at.front due → AnswersSome setting slots script (journal_of effects)
     go (inl cut) = let whole = whole-act setting slots script effects due at cut in (whole.0, in-step setting slots script effects due at cut whole)
-    go (inr cut) = before-crash setting slots script effects due at cut
+    go (inr (inl cut)) = before-crash setting slots script effects due at cut
+    go (inr (inr cut)) = cut-first setting slots script effects due at cut
 
 at-due : (setting : Setting) (slots : ℕ) (script : Script) (effects : List Effect) (due : Effect) → IsEffectDue (run_kind setting slots) script effects due → AnswersSome setting slots script (journal_of effects)
 at-due setting slots script effects due (inl at) = at-act setting slots script effects due at
@@ -115,7 +150,7 @@ abbrev AfterActs : Setting → ℕ → Script → List Act → List Write → Ty
 AfterActs setting slots script done writes = (backs : List Bool) × EndsAfter (blank slots) setting backs script done writes
 
 after-acts : (setting : Setting) (slots : ℕ) (script : Script) (done later : List Act) (effects : List Effect) (last : Progress) → acts_of script ≡ done ++ later
-    → Runs setting slots done effects last → AfterActs setting slots script done (journal_of effects)
+    → RunsBy setting slots done effects last → AfterActs setting slots script done (journal_of effects)
 after-acts setting slots script done later effects last same run =
     let goes = run-goes setting slots done effects last run in (goes.0, ends-after setting slots goes.0 script done later effects same goes.1)
 
@@ -127,13 +162,13 @@ whole-acts setting slots backs script done writes is =
 -- where memory was wanting: all of some of them, unless a commit crashes
 abbrev WantsMemory : Setting → ℕ → Script → List Write → Type 0
 WantsMemory setting slots script writes =
-    (backs : List Bool) × AnswersAllTheWay (blank slots) (sets_of setting backs script) writes × (CrashesNowhere script → EndsAfterSome (blank slots) setting backs script writes)
+    (backs : List Bool) × AnswersAllTheWay (blank slots) (sets_of setting backs script) writes × (CrashesNowhere script → MakesInOne setting → EndsAfterSome (blank slots) setting backs script writes)
 
 wants-none : (setting : Setting) (slots : ℕ) (script : Script) (done later : List Act) (effects : List Effect) (last : Progress) → acts_of script ≡ done ++ later
-    → Runs setting slots done effects last → WantsMemory setting slots script (journal_of effects)
+    → RunsBy setting slots done effects last → WantsMemory setting slots script (journal_of effects)
 wants-none setting slots script done later effects last same run =
     let ends = after-acts setting slots script done later effects last same run in
-    (ends.0, whole-acts setting slots ends.0 script done (journal_of effects) ends.1, λ nowhere. (done, ends.1))
+    (ends.0, whole-acts setting slots ends.0 script done (journal_of effects) ends.1, λ nowhere in_one. (done, ends.1))
 
 -- a script with a crash has one
 has-crash : (done : List Act) (after : ℕ) (later : List Act) → AllByRecursion (λ act. IsCrash act → ⊥) (done ++ Crash after ∷ later) → ⊥
@@ -148,18 +183,30 @@ wants-at setting slots script effects at = subst (λ effects. WantsMemory settin
         subst (λ effects. WantsMemory setting slots script (journal_of effects)) (sym (ap (λ effects. at.body ++ effects) none ∙ append-nil at.body))
         (wants-none setting slots script at.done (act ∷ at.later) at.body at.before acts at.run)
 
-    by : (act : Act) → acts_of script ≡ at.done ++ act ∷ at.later → (front : List Effect) → TakesMemory setting at.before act front → WantsMemory setting slots script (journal_of (at.body ++ front))
+    committed : (parts in_two : Bool) → acts_of script ≡ at.done ++ Commit ∷ at.later → (front : List Effect) → CommitTakes parts in_two setting at.before front → WantsMemory setting slots script (journal_of (at.body ++ front))
+    committed false in_two acts front needs = nothing Commit acts front needs.1
+    committed true false acts front (inl none) = nothing Commit acts front none
+    committed true false acts front (inr needs) = nothing Commit acts front needs.1
+    committed true true acts front (inl none) = nothing Commit acts front none
+    committed true true acts front (inr (inl needs)) = nothing Commit acts front needs.1
+    committed true true acts front (inr (inr rest)) =
+        let same : front ≡ rest.first = rest.effects_are ∙ ap (λ (more : List Effect). rest.first ++ more) rest.rest.1 ∙ append-nil rest.first in
+        let some = in-first setting slots script at.done at.later at.body front at.before acts at.run rest.right
+        (subst (λ (made : List Effect). (n : ℕ) → ShowsOldOrNew (state_after at.before.state (take n (journal_of made))) at.before.rules (whole_set at.before)) (sym same) (first-shows setting at.before rest.right rest.first rest.middle rest.early)) in
+        (some.0, some.1, λ nowhere in_one. absurd (let bad : true ≡ false = sym rest.right.0 ∙ in_one in cc))
+
+    by : (act : Act) → acts_of script ≡ at.done ++ act ∷ at.later → (front : List Effect) → TakesBy setting at.before act front → WantsMemory setting slots script (journal_of (at.body ++ front))
     by (Command change) acts front needs = nothing (Command change) acts front needs
     by (Ask request) acts front needs = nothing (Ask request) acts front needs
     by All acts front needs = absurd needs
     by (Probe key) acts front needs = absurd needs
     by (Packet key) acts front needs = absurd needs
-    by Commit acts front needs = nothing Commit acts front needs.1
+    by Commit acts front needs = committed setting.parts (parts_at setting at.before) acts front needs
     by (Trial most) acts front needs = nothing (Trial most) acts front needs.1
     by (Crash after) acts front (inl none) = nothing (Crash after) acts front none.1
     by (Crash after) acts front (inr (accepted, stops)) =
-        let some = as-commits setting slots script at.done after at.later at.body front at.before acts at.run (stops-as_commit setting at.before after front accepted stops) in
-        (some.0, some.1, λ nowhere. absurd (has-crash at.done after at.later (subst (AllByRecursion (λ act. IsCrash act → ⊥)) acts nowhere)))
+        let some = as-commits setting slots script at.done after at.later at.body front at.before acts at.run accepted (stops-as_commit setting at.before after front accepted stops) in
+        (some.0, some.1, λ nowhere in_one. absurd (has-crash at.done after at.later (subst (AllByRecursion (λ act. IsCrash act → ⊥)) acts nowhere)))
 
 for-memory : (setting : Setting) (slots : ℕ) (script : Script) (effects : List Effect) → IsOutOfMemory (run_kind setting slots) script effects → WantsMemory setting slots script (journal_of effects)
 for-memory setting slots script effects (inl none) = wants-none setting slots script [] (acts_of script) effects (start slots) refl (none, refl)
@@ -226,8 +273,8 @@ last-line (action ∷ made) (effect ∷ front) back line text is =
 last-judged : (setting : Setting) (before : Progress) (is : Verdict) (front back : List Effect) (line : List ℕ) (after : Progress)
     → setting.trace ≡ false → setting.json ≡ false → before.probes ≡ [] → Judged Commits setting before is (front ++ Prints line ∷ back) after → back ≡ []
 last-judged setting before Accepted front back line after quiet words none step =
-    last-line (actions_for setting before step.made) front back line (done_line setting.json (before.commits + 1) step.counts)
-    (step.effects_are ∙ ap (λ effects. effects ++ Prints (done_line setting.json (before.commits + 1) step.counts) ∷ []) (quiet-carried setting before (actions_for setting before step.made) quiet words none))
+    last-line (actions_for setting before step.made) front back line (done_line setting.json before.early (before.commits + 1) step.counts)
+    (step.effects_are ∙ ap (λ effects. effects ++ Prints (done_line setting.json before.early (before.commits + 1) step.counts) ∷ []) (quiet-carried setting before (actions_for setting before step.made) quiet words none))
 last-judged setting before (Unsound fault) front back line after quiet words none step = last-line [] front back line _ step.0
 last-judged setting before (OutOfBits field needed free) front back line after quiet words none step = last-line [] front back line _ step.0
 last-judged setting before (OutOfSlots needed free) front back line after quiet words none step = last-line [] front back line _ step.0
@@ -279,22 +326,22 @@ none-first (act ∷ done) later none = (none.0, none-first done later none.1)
 -- so where a line fails the writes of its act are all made
 abbrev LineFails : Setting → ℕ → Script → List Write → Type 0
 LineFails setting slots script writes =
-    (backs : List Bool) × AnswersAllTheWay (blank slots) (sets_of setting backs script) writes × (TellsNoWrite setting script → EndsAfterSome (blank slots) setting backs script writes)
+    (backs : List Bool) × AnswersAllTheWay (blank slots) (sets_of setting backs script) writes × (TellsNoWrite setting script → MakesInOne setting → EndsAfterSome (blank slots) setting backs script writes)
 
 at-line : (setting : Setting) (slots : ℕ) (script : Script) (effects : List Effect) (line : List ℕ) → IsEffectDue (run_kind setting slots) script effects (Prints line) → LineFails setting slots script (journal_of effects)
-at-line setting slots script effects line (inl at) = go at.cut
+at-line setting slots script effects line (inl at) = go (cut-somewhere setting at.before at.act at.front (Prints line) at.cut)
   where
     probes-none : TellsNoWrite setting script → at.before.probes ≡ []
     probes-none quiet = none-probed setting (start slots) at.done at.body at.before (none-first at.done (at.act ∷ at.later) (subst (AllByRecursion IsNoProbe) at.acts quiet.2)) at.run
 
-    go : IsCutStep setting at.before at.act at.front (Prints line) → LineFails setting slots script (journal_of effects)
+    go : CutsSomewhere setting at.before at.act at.front (Prints line) → LineFails setting slots script (journal_of effects)
     go (inl cut) =
         let whole = whole-act setting slots script effects (Prints line) at cut in
         let done : List Act = at.done ++ at.act ∷ [] in (
           whole.0,
           in-step setting slots script effects (Prints line) at cut whole,
-          λ quiet.
-              let none = last-step setting at.before at.act at.front cut.back line cut.after quiet.0 quiet.1 (probes-none quiet) cut.step in
+          λ quiet in_one.
+              let none = last-step setting at.before at.act at.front cut.back line cut.after quiet.0 quiet.1 (probes-none quiet) (alone setting at.before at.act _ cut.after in_one cut.step) in
               let all : List Effect = at.body ++ (at.front ++ Prints line ∷ cut.back) in
               let same : journal_of all ≡ journal_of effects =
               ap (λ back. journal_of (at.body ++ (at.front ++ Prints line ∷ back))) none
@@ -305,11 +352,14 @@ at-line setting slots script effects line (inl at) = go at.cut
                     (ends-after setting slots whole.0 script done at.later all (at.acts ∙ sym (append_assoc at.done (at.act ∷ []) at.later)) whole.1),
               ),
         )
-    go (inr cut) =
+    go (inr (inr cut)) =
+        let some = cut-first setting slots script effects (Prints line) at cut in
+        (some.0, some.1, λ quiet in_one. absurd (let bad : true ≡ false = sym cut.right.0 ∙ in_one in cc))
+    go (inr (inl cut)) =
         let some = before-crash setting slots script effects (Prints line) at cut in (
           some.0,
           some.1,
-          λ quiet.
+          λ quiet in_one.
               let actions = actions_before setting (settled_at at.before) cut.after cut.made in
               let all : map Acts actions ≡ at.front ++ Prints line ∷ cut.back =
               sym (quiet-actions setting 0 0 at.before.state actions quiet.0 quiet.1) ∙ ap (λ probes. effects_of setting probes 0 0 at.before.state actions) (sym (probes-none quiet))
@@ -320,7 +370,7 @@ at-line setting slots script effects line (inr end) =
     let goes = run-goes setting slots (acts_of script) effects end.last end.run in (
       goes.0,
       goes.1.0,
-      λ quiet. (acts_of script, ends-after setting slots goes.0 script (acts_of script) [] effects (sym (append-nil (acts_of script))) goes.1),
+      λ quiet in_one. (acts_of script, ends-after setting slots goes.0 script (acts_of script) [] effects (sym (append-nil (acts_of script))) goes.1),
     )
 
 -- ---- each outcome

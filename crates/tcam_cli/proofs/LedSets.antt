@@ -1,6 +1,5 @@
--- The sets of rules that a script leads through: the first of them, those of some first acts, and those of a commit that
--- crashes, which are those of a commit.
-use Rattle.std.proofs.Common.{◌≡◌, ℕ, ◌+◌, ◌-◌, Bool, true, false, drop, Some, List, [], ◌∷◌, ◌++◌, slice_get, refl, ap}
+-- The sets of rules that a script leads through: the first of them, and those of some first acts.
+use Rattle.std.proofs.Common.{◌≡◌, ◌+◌, ◌-◌, Bool, true, false, drop, Some, List, [], ◌∷◌, ◌++◌, slice_get, refl, ap}
 use Rattle.rule_model.specs.declared.Rule.{Rule}
 use Rattle.rule_store.specs.declared.Command.{Command as Change}
 use Rattle.rule_store.specs.Batch.{set_after}
@@ -10,6 +9,7 @@ use Rattle.replay.specs.declared.Act.TheVariants.{Command, Ask, All, Probe, Pack
 use Rattle.settled_changes.specs.declared.requested.Requested.{Requested}
 use Rattle.settled_changes.specs.declared.requested.Requested.TheVariants.{Nothing, Whole}
 use Rattle.settled_changes.specs.Requested.{asked_behind, asked_with, batch_behind, batch_with, settled_batch, settled_verdict}
+use Rattle.replay.specs.Early.{commit_verdict}
 use Rattle.replay.specs.Effects.{Setting}
 use Rattle.tcam_cli.specs.AllTheWay.{Led, Stands, TakenBack, sets_through}
 use Rattle.tcam_cli.specs.Headline.{is_back}
@@ -67,7 +67,7 @@ starts setting backs rules batch asked (All ∷ acts) = starts setting backs rul
 starts setting backs rules batch asked (Probe key ∷ acts) = starts setting backs rules batch asked acts
 starts setting backs rules batch asked (Packet key ∷ acts) = starts setting backs rules batch asked acts
 starts setting backs rules batch asked (Commit ∷ acts) =
-    starts-judged setting backs rules (settled_batch rules batch asked) acts (settled_verdict setting.slots setting.mode rules batch asked) (starts setting backs rules [] Nothing acts)
+    starts-judged setting backs rules (settled_batch rules batch asked) acts (commit_verdict setting rules batch asked) (starts setting backs rules [] Nothing acts)
 starts setting backs rules batch asked (Trial most ∷ acts) =
     starts-tried setting backs rules (settled_batch rules batch asked) acts (settled_verdict setting.slots setting.mode rules batch asked) (starts setting backs rules [] Nothing acts)
 starts setting backs rules batch asked (Crash after ∷ acts) =
@@ -115,7 +115,7 @@ more-sets-from setting (All ∷ acts) later backs rules batch asked = more-sets-
 more-sets-from setting (Probe key ∷ acts) later backs rules batch asked = more-sets-from setting acts later backs rules batch asked
 more-sets-from setting (Packet key ∷ acts) later backs rules batch asked = more-sets-from setting acts later backs rules batch asked
 more-sets-from setting (Commit ∷ acts) later backs rules batch asked =
-    more-judged setting backs rules (settled_batch rules batch asked) acts later (settled_verdict setting.slots setting.mode rules batch asked) (more-sets-from setting acts later)
+    more-judged setting backs rules (settled_batch rules batch asked) acts later (commit_verdict setting rules batch asked) (more-sets-from setting acts later)
 more-sets-from setting (Trial most ∷ acts) later backs rules batch asked =
     more-tried setting backs rules (settled_batch rules batch asked) acts later (settled_verdict setting.slots setting.mode rules batch asked) (more-sets-from setting acts later)
 more-sets-from setting (Crash after ∷ acts) later backs rules batch asked =
@@ -124,42 +124,3 @@ more-sets-from setting (Crash after ∷ acts) later backs rules batch asked =
 pub more-sets : (setting : Setting) (backs : List Bool) (rules : List Rule) (batch : List Change) (asked : Requested) (acts later : List Act)
     → Continues (sets_through setting backs rules batch asked acts) (sets_through setting backs rules batch asked (acts ++ later))
 more-sets setting backs rules batch asked acts later = more-sets-from setting acts later backs rules batch asked
-
--- ---- a commit that crashes leads through the sets of a commit
-
-abbrev SetsSame : Setting → List Act → List Act → Type 0
-SetsSame setting one other =
-    (backs : List Bool) (rules : List Rule) (batch : List Change) (asked : Requested) → sets_through setting backs rules batch asked one ≡ sets_through setting backs rules batch asked other
-
-same-judged : (setting : Setting) (backs : List Bool) (rules : List Rule) (batch : List Change) (one other : List Act) (is : Verdict) → SetsSame setting one other
-    → sets_judged setting backs rules batch one is ≡ sets_judged setting backs rules batch other is
-same-judged setting backs rules batch one other Accepted same = ap (λ sets. Stands rules ∷ sets) (same backs (set_after rules batch) [] Nothing)
-same-judged setting backs rules batch one other (Unsound fault) same = same backs rules [] Nothing
-same-judged setting backs rules batch one other (OutOfBits field needed free) same = same backs rules [] Nothing
-same-judged setting backs rules batch one other (OutOfSlots needed free) same = same backs rules [] Nothing
-
-same-back : (setting : Setting) (backs : List Bool) (rules : List Rule) (batch : List Change) (one other : List Act) (back : Bool) → SetsSame setting one other
-    → sets_tried setting backs rules batch one back ≡ sets_tried setting backs rules batch other back
-same-back setting backs rules batch one other true same = ap (λ sets. Stands rules ∷ TakenBack (set_after rules batch) ∷ sets) (same backs rules [] Nothing)
-same-back setting backs rules batch one other false same = ap (λ sets. Stands rules ∷ sets) (same backs (set_after rules batch) [] Nothing)
-
-same-tried : (setting : Setting) (backs : List Bool) (rules : List Rule) (batch : List Change) (one other : List Act) (is : Verdict) → SetsSame setting one other
-    → trial_judged setting backs rules batch one is ≡ trial_judged setting backs rules batch other is
-same-tried setting backs rules batch one other Accepted same = same-back setting (drop 1 backs) rules batch one other (is_back backs) same
-same-tried setting backs rules batch one other (Unsound fault) same = same backs rules [] Nothing
-same-tried setting backs rules batch one other (OutOfBits field needed free) same = same backs rules [] Nothing
-same-tried setting backs rules batch one other (OutOfSlots needed free) same = same backs rules [] Nothing
-
-pub same-sets : (setting : Setting) (done : List Act) (after : ℕ) (behind : List Act) → SetsSame setting (done ++ Commit ∷ behind) (done ++ Crash after ∷ behind)
-same-sets setting [] after behind backs rules batch asked = refl
-same-sets setting (Command change ∷ done) after behind backs rules batch asked = same-sets setting done after behind backs rules (batch_with batch asked change) (asked_with asked change)
-same-sets setting (Ask request ∷ done) after behind backs rules batch asked = same-sets setting done after behind backs rules (batch_behind batch asked) (asked_behind batch asked request)
-same-sets setting (All ∷ done) after behind backs rules batch asked = same-sets setting done after behind backs rules [] (Whole [])
-same-sets setting (Probe key ∷ done) after behind backs rules batch asked = same-sets setting done after behind backs rules batch asked
-same-sets setting (Packet key ∷ done) after behind backs rules batch asked = same-sets setting done after behind backs rules batch asked
-same-sets setting (Commit ∷ done) after behind backs rules batch asked =
-    same-judged setting backs rules (settled_batch rules batch asked) (done ++ Commit ∷ behind) (done ++ Crash after ∷ behind) (settled_verdict setting.slots setting.mode rules batch asked) (same-sets setting done after behind)
-same-sets setting (Trial most ∷ done) after behind backs rules batch asked =
-    same-tried setting backs rules (settled_batch rules batch asked) (done ++ Commit ∷ behind) (done ++ Crash after ∷ behind) (settled_verdict setting.slots setting.mode rules batch asked) (same-sets setting done after behind)
-same-sets setting (Crash limit ∷ done) after behind backs rules batch asked =
-    same-judged setting backs rules (settled_batch rules batch asked) (done ++ Commit ∷ behind) (done ++ Crash after ∷ behind) (settled_verdict setting.slots setting.mode rules batch asked) (same-sets setting done after behind)

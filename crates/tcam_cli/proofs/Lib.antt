@@ -7,6 +7,10 @@ mod TracedWords
 pub mod ToldLines
 mod Kind
 pub mod OneMore
+pub mod TwoParts
+pub mod PartedWrites
+mod CutActs
+mod ShortLines
 mod Decided
 mod Outcomes
 mod MadeRuns

@@ -17,12 +17,14 @@ use Rattle.rule_store.specs.Batch.{most_pending}
 use Rattle.script_runs.specs.Script.{Whole, acts_of}
 use Rattle.replay.specs.Script.{limit_fault, pending_after}
 use Rattle.replay.specs.Effects.{Setting, Effect, events_in, printed}
-use Rattle.replay.specs.Run.{Progress, Runs, ending, start}
-use Rattle.replay.specs.Carried.{IsAt, Carries}
+use Rattle.replay.specs.Run.{Progress, ending, start}
+use Rattle.replay.specs.Carried.{Carries, IsAt}
+use Rattle.tcam_cli.proofs.TwoParts.{in-one-part, steps-one}
 use Rattle.replay.specs.Fates.{IsCrash}
 use Rattle.replay.specs.Running.{limit_text}
 use Rattle.script_runs.specs.declared.Status.{Status}
 use Rattle.script_runs.specs.declared.Status.TheVariants.{Done, Refused, Script as ScriptFault, ReadFault, WriteFault, DeviceFault, Memory, Usage}
+use Rattle.tcam_cli.specs.InTwo.{CarriesBy, RunsBy}
 use Rattle.tcam_cli.specs.Headline.{IsCarriedOut, Makes, MayEnd, run_kind, status_of}
 use Rattle.tcam_cli.specs.MadeScript.{made_act, made_numbered, made_script}
 use Rattle.script_runs.specs.Rounds.{Closes}
@@ -76,7 +78,7 @@ pub record MadeSoFar (setting : Setting) (slots : ℕ) (all left : List Made) (p
   pub done : List Made
   pub parts : all ≡ done ++ left
   pub effects : List Effect
-  pub run : Runs setting slots (map made_act done) effects progress
+  pub run : RunsBy setting slots (map made_act done) effects progress
   pub events_is : events ≡ events_in effects
   pub report : Appends taken_old taken_new (printed effects)
 
@@ -95,15 +97,21 @@ pub made-at : (setting : Setting) (slots : ℕ) (all left : List Made) (progress
     → MadeSoFar setting slots all left progress events taken_old taken_new → IsAt slots events progress
 made-at setting slots all left progress events taken_old taken_new s = run-at setting slots (map made_act s.done) s.effects progress events s.run s.events_is
 
+-- where no commit is made in two parts an act is carried out as it is
+pub made-carries : (setting : Setting) (progress : Progress) (act : Act) (next : Progress) (events events_new : List Action) (taken after : Option (List ℕ)) → setting.parts ≡ false
+    → Carries setting progress act next events events_new taken after → CarriesBy setting progress act next events events_new taken after
+made-carries setting progress act next events events_new taken after in_one carries =
+    record { effects = carries.effects; step = steps-one setting progress act carries.effects next (in-one-part setting progress act in_one) carries.step; does = carries.does }
+
 pub made-more : (setting : Setting) (slots : ℕ) (all left : List Made) (command : Made) (progress next : Progress) (events events_new : List Action) (start taken after : Option (List ℕ))
-    → MadeSoFar setting slots all (command ∷ left) progress events start taken → Carries setting progress (made_act command) next events events_new taken after
+    → MadeSoFar setting slots all (command ∷ left) progress events start taken → CarriesBy setting progress (made_act command) next events events_new taken after
     → MadeSoFar setting slots all left next events_new start after
 made-more setting slots all left command progress next events events_new start taken after s carried =
     let does = does-of setting slots carried.effects [] events events_new taken after carried.does in record {
       done = s.done ++ command ∷ [];
       parts = s.parts ∙ sym (append_assoc s.done (command ∷ []) left);
       effects = s.effects ++ carried.effects;
-      run = subst (λ acts. Runs setting slots acts (s.effects ++ carried.effects) next) (sym (map_append s.done (command ∷ [])))
+      run = subst (λ acts. RunsBy setting slots acts (s.effects ++ carried.effects) next) (sym (map_append s.done (command ∷ [])))
           (run-more setting slots (map made_act s.done) s.effects progress (made_act command) carried.effects next s.run carried.step);
       events_is = does-events (run_kind setting slots) joins s.effects carried.effects [] events events_new taken after does s.events_is;
       report = subst (Appends start after) (append-nil (printed (s.effects ++ carried.effects)))

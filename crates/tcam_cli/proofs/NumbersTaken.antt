@@ -12,7 +12,7 @@ use Rattle.clap.specs.Faults.{fault_of, level_fault}
 use Rattle.report_lines.specs.declared.Family.{Family}
 use Rattle.report_lines.specs.declared.Family.TheVariants.{Route, Acl, Route6, Acl6}
 use Rattle.option_words.specs.Options.{is_traced, number_of, number_position, placed_by, placement_option, ranges_option, slots_option, text_of, trace_flag}
-use Rattle.tcam_cli.specs.CommandLine.{acl_app, depth_option, gen_app, job_at, job_of_rows, job_of_subcommand, made_at, mode_wanted, route_app, script_by, tcam_app, tcam_top, json_flag, names_flag, verify_app, is_json, is_named}
+use Rattle.tcam_cli.specs.CommandLine.{acl_app, depth_option, gen_app, job_at, job_of_rows, job_of_subcommand, made_at, mode_wanted, route_app, script_by, tcam_app, tcam_top, json_flag, names_flag, removals_option, verify_app, is_json, is_named, parted_by}
 use Rattle.tcam_cli.specs.Asked.{job_by, tested_job, tested_job_of_rows, tested_made, tested_script}
 use Rattle.tcam_cli.specs.Headline.{Job}
 use Rattle.option_words.proofs.Defaults.{AreOthers, all-behind, has-still, keep-defaults, others-keep, script-slots}
@@ -38,7 +38,7 @@ depth-keep = numbered-keep depth_id 0 15 (codes "0") refl
 abbrev read_by : Family → List Row → Bool → Bool → Job
 read_by family rows slots depth =
     job_by (cond slots (Some (number_of slots_id rows)) None) (λ s.
-    job_by (cond depth (Some (number_of depth_id rows)) None) (λ d. job_at family s (mode_wanted family rows) (placed_by rows) (is_traced rows) d (is_json rows) (is_named rows)))
+    job_by (cond depth (Some (number_of depth_id rows)) None) (λ d. job_at family s (mode_wanted family rows) (placed_by rows) (is_traced rows) d (is_json rows) (is_named rows) (parted_by rows)))
 
 script-tested : (family : Family) (rows : List Row) → HasNumber slots_id 1 most_slots rows → HasNumber depth_id 0 15 rows → script_by family rows ≡ tested_script family rows
 script-tested family rows slots depth =
@@ -73,14 +73,14 @@ made-tested rows slots seed rules batches =
 
 -- what stands behind --slots
 abbrev route_rest : List Rule
-route_rest = filled placement_option ∷ filled trace_flag ∷ filled depth_option ∷ filled json_flag ∷ filled names_flag ∷ filled help_rule ∷ []
+route_rest = filled placement_option ∷ filled trace_flag ∷ filled depth_option ∷ filled json_flag ∷ filled names_flag ∷ filled removals_option ∷ filled help_rule ∷ []
 
 abbrev list_rest : List Rule
-list_rest = filled ranges_option ∷ filled placement_option ∷ filled trace_flag ∷ filled depth_option ∷ filled json_flag ∷ filled names_flag ∷ filled help_rule ∷ []
+list_rest = filled ranges_option ∷ filled placement_option ∷ filled trace_flag ∷ filled depth_option ∷ filled json_flag ∷ filled names_flag ∷ filled removals_option ∷ filled help_rule ∷ []
 
 -- what stands behind --depth
 abbrev script_back : List Rule
-script_back = filled json_flag ∷ filled names_flag ∷ filled help_rule ∷ []
+script_back = filled json_flag ∷ filled names_flag ∷ filled removals_option ∷ filled help_rule ∷ []
 
 -- what stands before --depth
 abbrev route_front : List Rule
@@ -186,7 +186,7 @@ module _ (s : Shape) (are : s.rules ≡ gen_rules) (once : s.args_override_self 
 
 -- where clap finds no fault, the tests of the numbers pass
 pub tested : (words : List Text) → fault_of tcam_app words ≡ [] → (o : Option (Text × List Row)) → subcommand_of tcam_app words ≡ o → job_of_subcommand o ≡ tested_job o
-unfolding tcam_app tcam_top route_app acl_app gen_app slots_option ranges_option placement_option trace_flag json_flag names_flag depth_option number_position verify_app
+unfolding tcam_app tcam_top route_app acl_app gen_app slots_option ranges_option placement_option trace_flag json_flag names_flag removals_option depth_option number_position verify_app
 tested words none None are = refl
 tested words none (Some (name, rows)) are =
     built-gives (λ name rows. job_of_rows name rows ≡ tested_job_of_rows name rows) (built tcam_app) (

@@ -1,5 +1,5 @@
 -- What an act did that was stopped, and how the run ends by it.
-use Rattle.std.proofs.Common.{◌≡◌, ℕ, ◌∷◌, ◌++◌, Bool, true, false, Option, Err, List, [], refl, subst}
+use Rattle.std.proofs.Common.{◌≡◌, ℕ, ◌∷◌, ◌++◌, Option, Err, List, [], refl, subst}
 use Rattle.std.specs.Io.KnownBytes.{Appends}
 use Rattle.script_runs.specs.Script.{acts_of}
 use Rattle.script_runs.specs.Rounds.{Grows}
@@ -11,9 +11,10 @@ use Rattle.replay.specs.declared.RunFault.{RunFault}
 use Rattle.replay.specs.declared.RunFault.TheVariants as fault
 use Rattle.replay.specs.Script.{Script}
 use Rattle.replay.specs.Effects.{Setting, Effect, events_in, printed}
-use Rattle.replay.specs.Run.{Progress, Runs}
-use Rattle.replay.specs.Carried.{IsAt, CutsAtLine, CutsAtWrite, Wants}
-use Rattle.replay.specs.Running.{Running, ComesTo, progress_of, setting_of}
+use Rattle.replay.specs.Run.{Progress}
+use Rattle.replay.specs.Carried.{IsAt}
+use Rattle.replay.specs.Running.{Running, progress_of, setting_of}
+use Rattle.tcam_cli.specs.InTwo.{ComesToBy, CutsAtLineBy, CutsAtWriteBy, RunsBy, WantsBy}
 use Rattle.tcam_cli.specs.Headline.{MatchesOutcome, run_kind}
 use Rattle.tcam_cli.specs.Rounds.{status_of_fault}
 use Rattle.tcam_cli.proofs.Kind.{joins, does-of, grows-of}
@@ -21,24 +22,18 @@ use Rattle.tcam_cli.proofs.OneMore.{run-at}
 
 -- what an act did that was stopped, by its fault
 abbrev pub Stops : ℕ → Setting → Progress → Act → RunFault → List Action → List Action → Option (List ℕ) → Option (List ℕ) → Type 0
-Stops slots setting last act fault.Sink events events_new before after = IsAt slots events last → CutsAtLine setting last act events events_new before after
-Stops slots setting last act fault.Device events events_new before after = IsAt slots events last → CutsAtWrite setting last act events events_new before after
-Stops slots setting last act fault.Memory events events_new before after = IsAt slots events last → Wants setting last act events events_new before after
-
--- want of memory, where a call may follow or where none may
-wants-at : (slots : ℕ) (old : Running) (act : Act) (new : Running) (events events_new : List Action) (before after : Option (List ℕ)) (broken : Bool) → new.broken ≡ broken
-    → ComesTo slots old act new (Err (Stopped fault.Memory)) events events_new before after → IsAt slots events (progress_of slots old) → Wants (setting_of old) (progress_of slots old) act events events_new before after
-wants-at slots old act new events events_new before after false is comes at = (subst (λ one. ComesTo slots old act (record new { broken = one }) (Err (Stopped fault.Memory)) events events_new before after) is comes).0
-wants-at slots old act new events events_new before after true is comes at = (subst (λ one. ComesTo slots old act (record new { broken = one }) (Err (Stopped fault.Memory)) events events_new before after) is comes) at
+Stops slots setting last act fault.Sink events events_new before after = IsAt slots events last → CutsAtLineBy setting last act events events_new before after
+Stops slots setting last act fault.Device events events_new before after = IsAt slots events last → CutsAtWriteBy setting last act events events_new before after
+Stops slots setting last act fault.Memory events events_new before after = IsAt slots events last → WantsBy setting last act events events_new before after
 
 pub stops : (slots : ℕ) (old : Running) (act : Act) (new : Running) (why : RunFault) (events events_new : List Action) (before after : Option (List ℕ))
-    → ComesTo slots old act new (Err (Stopped why)) events events_new before after → Stops slots (setting_of old) (progress_of slots old) act why events events_new before after
+    → ComesToBy slots old act new (Err (Stopped why)) events events_new before after → Stops slots (setting_of old) (progress_of slots old) act why events events_new before after
 stops slots old act new fault.Sink events events_new before after comes = comes
 stops slots old act new fault.Device events events_new before after comes = comes
-stops slots old act new fault.Memory events events_new before after comes = wants-at slots old act new events events_new before after new.broken refl comes
+stops slots old act new fault.Memory events events_new before after comes = comes
 
 pub stops-memory : (slots : ℕ) (setting : Setting) (last : Progress) (act : Act) (why : RunFault) (events events_new : List Action) (before after : Option (List ℕ))
-    → why ≡ fault.Memory → IsAt slots events last → Stops slots setting last act why events events_new before after → Wants setting last act events events_new before after
+    → why ≡ fault.Memory → IsAt slots events last → Stops slots setting last act why events events_new before after → WantsBy setting last act events events_new before after
 stops-memory slots setting last act why events events_new before after is at stop = (subst (λ why. Stops slots setting last act why events events_new before after) is stop) at
 
 -- events and report have only grown
@@ -50,7 +45,7 @@ stops-grows slots setting last act fault.Memory events events_new before after a
 
 -- these acts were carried out, with these effects, and the next one is cut
 module _ (setting : Setting) (slots : ℕ) (script came : Script) (done : List Act) (effects : List Effect) (last : Progress) (events : List Action) (start before : Option (List ℕ))
-    (run : Runs setting slots done effects last) (events_is : events ≡ events_in effects) (report : Appends start before (printed effects))
+    (run : RunsBy setting slots done effects last) (events_is : events ≡ events_in effects) (report : Appends start before (printed effects))
     (act : Act) (later : List Act) (acts : acts_of script ≡ done ++ act ∷ later) (events_new : List Action) (after : Option (List ℕ)) where
   at : IsAt slots events last
   at = run-at setting slots done effects last events run events_is

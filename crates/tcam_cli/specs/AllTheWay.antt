@@ -16,6 +16,7 @@ use Rattle.settled_changes.specs.declared.requested.Requested.TheVariants.{Nothi
 use Rattle.settled_changes.specs.Requested.{asked_behind, asked_with, batch_behind, batch_with, settled_batch, settled_verdict}
 use Rattle.replay.specs.Fates.{IsCrash}
 use Rattle.replay.specs.Script.{Script, script_of}
+use Rattle.replay.specs.Early.{commit_verdict}
 use Rattle.replay.specs.Effects.{Setting}
 use Rattle.script_runs.specs.declared.Status.{Status}
 use Rattle.script_runs.specs.declared.Status.TheVariants.{Done, Refused, Script as ScriptFault, ReadFault, WriteFault, DeviceFault, Memory, Usage}
@@ -50,7 +51,7 @@ sets_through setting backs rules batch asked (All ∷ acts) = sets_through setti
 sets_through setting backs rules batch asked (Probe key ∷ acts) = sets_through setting backs rules batch asked acts
 sets_through setting backs rules batch asked (Packet key ∷ acts) = sets_through setting backs rules batch asked acts
 sets_through setting backs rules batch asked (Commit ∷ acts) =
-    elim (settled_verdict setting.slots setting.mode rules batch asked) [
+    elim (commit_verdict setting rules batch asked) [
       | Accepted ↦ Stands rules ∷ sets_through setting backs (set_after rules (settled_batch rules batch asked)) [] Nothing acts
       | _ ↦ sets_through setting backs rules [] Nothing acts
     ]
@@ -136,6 +137,10 @@ IsNoProbe (Crash after) = Unit {0}
 abbrev pub TellsNoWrite : Setting → Script → Type 0
 TellsNoWrite setting script = (setting.trace ≡ false) × (setting.json ≡ false) × AllByRecursion IsNoProbe (acts_of script)
 
+-- each commit of a run is made in one part
+abbrev pub MakesInOne : Setting → Type 0
+MakesInOne setting = setting.parts ≡ false
+
 -- no commit of the script crashes
 abbrev pub CrashesNowhere : Script → Type 0
 CrashesNowhere script = AllByRecursion (λ act. IsCrash act → ⊥) (acts_of script)
@@ -143,17 +148,18 @@ CrashesNowhere script = AllByRecursion (λ act. IsCrash act → ⊥) (acts_of sc
 -- Where the writes of a run end, by its status: at the last set of the script, of what came of it, or of some first
 -- acts. Memory is wanting only before a commit's first write, or where it crashes: so in a script without crashes want of
 -- memory leaves no commit half made. A commit prints its line after its last write: so a line that fails leaves none half
--- made where no write has a line of its own. A device write that fails each time may, and so may the line of a write, or
--- a crash that finds no memory: the writes then end within a commit, where each key has the answer of the set before it or
--- of the one after it (`answers` of IsHitlessRun), and nothing more can be said.
+-- made where no write has a line of its own. Both hold where each commit is made in one part: of two parts the first may be
+-- made alone. A device write that fails each time may leave a commit half made, and so may the line of a write, or a crash
+-- that finds no memory: the writes then end within a commit, where each key has the answer of the set before it or of the
+-- one after it (`answers` of IsHitlessRun), and nothing more can be said.
 abbrev pub EndsAs : State → Setting → List Bool → Script → Script → Status → List Write → Type 0
 EndsAs state setting backs script came Done writes = EndsAtLast state (sets_of setting backs script) writes
 EndsAs state setting backs script came Refused writes = EndsAtLast state (sets_of setting backs script) writes
 EndsAs state setting backs script came ScriptFault writes = EndsAtLast state (sets_of setting backs script) writes
 EndsAs state setting backs script came ReadFault writes = EndsAfter state setting backs script (acts_of came) writes
-EndsAs state setting backs script came WriteFault writes = TellsNoWrite setting script → EndsAfterSome state setting backs script writes
+EndsAs state setting backs script came WriteFault writes = TellsNoWrite setting script → MakesInOne setting → EndsAfterSome state setting backs script writes
 EndsAs state setting backs script came DeviceFault writes = Unit {0}
-EndsAs state setting backs script came Memory writes = CrashesNowhere script → EndsAfterSome state setting backs script writes
+EndsAs state setting backs script came Memory writes = CrashesNowhere script → MakesInOne setting → EndsAfterSome state setting backs script writes
 EndsAs state setting backs script came Usage writes = ⊥
 
 -- What packets see of a run over a script, on a device that was blank: its trials were taken back, or not, as these

@@ -8,7 +8,7 @@ use Rattle.report_lines.specs.declared.Family.TheVariants.{Route, Acl, Route6, A
 use Rattle.tcam_cli.specs.declared.command_line.Asked.{Asked}
 use Rattle.tcam_cli.specs.declared.command_line.Asked.TheVariants as asked
 use Rattle.option_words.specs.Options.{is_traced, number_given, placed_by}
-use Rattle.tcam_cli.specs.CommandLine.{is_json, is_named, job_at, made_at, mode_wanted, script_setting}
+use Rattle.tcam_cli.specs.CommandLine.{is_json, is_named, job_at, made_at, mode_wanted, parted_by, script_setting}
 use Rattle.tcam_cli.specs.OwnTexts.{help_on, version_text}
 use Rattle.tcam_cli.specs.Headline.{Job, NoJob, Tells, Reads, Makes, Verifies}
 
@@ -22,7 +22,7 @@ job_by (Some number) job = job number
 abbrev pub tested_script : Family → List Row → Job
 tested_script family rows =
     job_by (number_given 1 most_slots (codes "slots") rows) (λ slots.
-    job_by (number_given 0 15 (codes "depth") rows) (λ depth. job_at family slots (mode_wanted family rows) (placed_by rows) (is_traced rows) depth (is_json rows) (is_named rows)))
+    job_by (number_given 0 15 (codes "depth") rows) (λ depth. job_at family slots (mode_wanted family rows) (placed_by rows) (is_traced rows) depth (is_json rows) (is_named rows) (parted_by rows)))
 
 abbrev pub tested_made : List Row → Job
 tested_made rows =
@@ -48,8 +48,9 @@ tested_job (Some (name, rows)) = tested_job_of_rows name rows
 
 -- what an answer says that words ask for
 abbrev pub asked_by : Asked → Job
-asked_by (asked.Script family slots mode placement trace depth json names) = Reads (script_setting family slots mode placement trace depth json names)
-asked_by (asked.Made slots mode placement seed rules batches) = Makes (script_setting Acl slots mode placement false 0 false false) seed rules batches
+asked_by (asked.Script family slots mode placement trace depth json names parts) =
+    Reads (script_setting family slots mode placement trace depth json names parts)
+asked_by (asked.Made slots mode placement seed rules batches) = Makes (script_setting Acl slots mode placement false 0 false false false) seed rules batches
 asked_by asked.Verify = Verifies
 asked_by (asked.Help topic) = Tells (help_on topic)
 asked_by asked.Version = Tells version_text
@@ -66,7 +67,7 @@ pub record AreMadeNumbers (slots seed rules batches : ℕ) : Type 0 where
 
 -- the numbers of an answer are in their ranges
 abbrev pub IsInRange : Asked → Type 0
-IsInRange (asked.Script family slots mode placement trace depth json names) =
+IsInRange (asked.Script family slots mode placement trace depth json names parts) =
     (1 ≤ slots) × (slots ≤ most_slots) × (depth ≤ 15)
 IsInRange (asked.Made slots mode placement seed rules batches) = AreMadeNumbers slots seed rules batches
 IsInRange asked.Verify = Unit {0}

@@ -23,10 +23,10 @@ use Rattle.tcam_cli.specs.OwnTexts.{help_on, version_text}
 
 -- a script of a family over so many slots in use, port ranges tested as the mode says, each insertion aiming as the
 -- placement says, with a trace or without, with the words of probes searched after so many further writes, with a report in
--- JSON or without, and with a trace by names or by the words of the device
-abbrev pub script_setting : Family → ℕ → Mode → Placement → Bool → ℕ → Bool → Bool → Setting
-script_setting family slots mode placement trace depth json names =
-    record { slots = slots; mode = mode; placement = placement; family = family; trace = trace; depth = depth; json = json; names = names }
+-- JSON or without, with a trace by names or by the words of the device, and with removals first where they may or last
+abbrev pub script_setting : Family → ℕ → Mode → Placement → Bool → ℕ → Bool → Bool → Bool → Setting
+script_setting family slots mode placement trace depth json names parts =
+    record { slots = slots; mode = mode; placement = placement; family = family; trace = trace; depth = depth; json = json; names = names; parts = parts }
 
 -- --depth, a number from 0 to 15, by default 0
 unfoldable pub depth_option : Rule
@@ -45,17 +45,25 @@ json_flag = record (new_rule (codes "json")) { long = Some (codes "json"); actio
 unfoldable pub names_flag : Rule
 names_flag = record (new_rule (codes "names")) { long = Some (codes "names"); action = Some SetTrue }
 
+-- --removals, a word, by default last
+unfoldable pub removals_option : Rule
+removals_option = record (new_rule (codes "removals")) {
+  long = Some (codes "removals");
+  action = Some Set;
+  defaults = codes "last" ∷ [];
+}
+
 -- a subcommand for route scripts, by its name
 unfoldable pub route_app : Text → App
 route_app name =
-    with_rule (with_rule (with_rule (with_rule (with_rule (with_rule (new_app name) slots_option) placement_option) trace_flag) depth_option) json_flag)
-    names_flag
+    with_rule (with_rule (with_rule (with_rule (with_rule (with_rule (with_rule (new_app name) slots_option) placement_option) trace_flag) depth_option) json_flag)
+    names_flag) removals_option
 
 -- a subcommand for access-list scripts, by its name
 unfoldable pub acl_app : Text → App
 acl_app name =
-    with_rule (with_rule (with_rule (with_rule (with_rule (with_rule (with_rule (new_app name) slots_option) ranges_option) placement_option) trace_flag)
-    depth_option) json_flag) names_flag
+    with_rule (with_rule (with_rule (with_rule (with_rule (with_rule (with_rule (with_rule (new_app name) slots_option) ranges_option) placement_option)
+    trace_flag) depth_option) json_flag) names_flag) removals_option
 
 -- the subcommand for made commands: SEED, RULES and BATCHES
 unfoldable pub gen_app : App
@@ -89,6 +97,14 @@ is_json rows = has_text (codes "json") (codes "true") rows
 abbrev pub is_named : List Row → Bool
 is_named rows = has_text (codes "names") (codes "true") rows
 
+-- whether removals go first, where the word says when they go
+abbrev pub removals_in : Text → Option Bool
+removals_in text =
+    if bytes_eq text (codes "last") then Some false else if bytes_eq text (codes "first") then Some true else None
+
+abbrev pub parted_by : List Row → Option Bool
+parted_by rows = removals_in (text_of (codes "removals") rows)
+
 -- the mode that is wanted: the ranges of a route are any port, and it has no such option
 abbrev pub mode_wanted : Family → List Row → Option Mode
 mode_wanted Route rows = Some Cover
@@ -96,23 +112,26 @@ mode_wanted Acl rows = mode_in (text_of (codes "ranges") rows)
 mode_wanted Route6 rows = Some Cover
 mode_wanted Acl6 rows = mode_in (text_of (codes "ranges") rows)
 
--- a script of a family over so many slots, where the words of --ranges and --placement name a mode and a placement
-abbrev pub job_at : Family → ℕ → Option Mode → Option Placement → Bool → ℕ → Bool → Bool → Job
-job_at family slots None placement trace depth json names = NoJob
-job_at family slots (Some mode) None trace depth json names = NoJob
-job_at family slots (Some mode) (Some placement) trace depth json names = Reads (script_setting family slots mode placement trace depth json names)
+-- a script of a family over so many slots, where the words of --ranges, --placement and --removals name a mode, a placement
+-- and when removals go
+abbrev pub job_at : Family → ℕ → Option Mode → Option Placement → Bool → ℕ → Bool → Bool → Option Bool → Job
+job_at family slots None placement trace depth json names parts = NoJob
+job_at family slots (Some mode) None trace depth json names parts = NoJob
+job_at family slots (Some mode) (Some placement) trace depth json names None = NoJob
+job_at family slots (Some mode) (Some placement) trace depth json names (Some parts) =
+    Reads (script_setting family slots mode placement trace depth json names parts)
 
 -- the commands of a seed, over so many slots, where these words name them: so many batches of so many rules
 abbrev pub made_at : ℕ → Option Mode → Option Placement → ℕ → ℕ → ℕ → Job
 made_at slots None placement seed rules batches = NoJob
 made_at slots (Some mode) None seed rules batches = NoJob
-made_at slots (Some mode) (Some placement) seed rules batches = Makes (script_setting Acl slots mode placement false 0 false false) seed rules batches
+made_at slots (Some mode) (Some placement) seed rules batches = Makes (script_setting Acl slots mode placement false 0 false false false) seed rules batches
 
 -- a script of a family, by its arguments
 abbrev pub script_by : Family → List Row → Job
 script_by family rows =
     job_at family (number_of (codes "slots") rows) (mode_wanted family rows) (placed_by rows) (is_traced rows) (number_of (codes "depth") rows)
-    (is_json rows) (is_named rows)
+    (is_json rows) (is_named rows) (parted_by rows)
 
 -- what a subcommand and its arguments ask for: a script of its family over so many slots, made commands, or the check of a
 -- trace

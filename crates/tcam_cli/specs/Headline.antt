@@ -30,9 +30,11 @@ use Rattle.settled_changes.specs.Requested.{asked_behind, asked_with, batch_behi
 use Rattle.replay.specs.Script.{Script, Reading, script_kind, script_of}
 use Rattle.report_lines.specs.Text.{usage_line, fault_line}
 use Rattle.replay.specs.Text.{yes_line, no_line}
+use Rattle.replay.specs.Early.{commit_verdict}
 use Rattle.replay.specs.Effects.{Setting, Effect, Acts, Prints, events_in, printed}
 use Rattle.replay.specs.Reports.{fault_told}
-use Rattle.replay.specs.Run.{Progress, HasEffects, IsCutStep, TakesMemory, start, ending}
+use Rattle.replay.specs.Run.{Progress, start, ending}
+use Rattle.tcam_cli.specs.InTwo.{IsCutBy, StepsBy, TakesBy}
 use Rattle.trace_check.specs.Answers.{TraceAnswer, Yes, No, Bad, Unread, IsTraceAnswer}
 use Rattle.tcam_cli.specs.Readings.{reading_by}
 use Rattle.tcam_cli.specs.MadeScript.{made_script}
@@ -62,9 +64,9 @@ run_kind setting device_slots =
       scripts = script_kind (reading_by setting);
       counted = λ progress. (changes_in progress.batch progress.asked, length progress.probes);
       start = start device_slots;
-      Step = HasEffects setting;
-      IsCutStep = IsCutStep setting;
-      TakesMemory = TakesMemory setting;
+      Step = StepsBy setting;
+      IsCutStep = IsCutBy setting;
+      TakesMemory = TakesBy setting;
       closing_line = closing_line setting;
       refused = λ progress. progress.refused;
       line = Prints;
@@ -167,7 +169,7 @@ any_refused setting backs rules batch asked (All ∷ acts) = any_refused setting
 any_refused setting backs rules batch asked (Probe key ∷ acts) = any_refused setting backs rules batch asked acts
 any_refused setting backs rules batch asked (Packet key ∷ acts) = any_refused setting backs rules batch asked acts
 any_refused setting backs rules batch asked (Commit ∷ acts) =
-    elim (settled_verdict setting.slots setting.mode rules batch asked) [
+    elim (commit_verdict setting rules batch asked) [
       | Accepted ↦ any_refused setting backs (set_after rules (settled_batch rules batch asked)) [] Nothing acts
       | _ ↦ true
     ]

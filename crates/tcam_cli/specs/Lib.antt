@@ -1,4 +1,5 @@
 pub mod Readings
+pub mod InTwo
 pub mod Headline
 pub mod OwnTexts
 pub mod CommandLine

@@ -46,6 +46,9 @@ help_text = codes "tcam: the table manager of a ternary content-addressable memo
     ++ 10 ∷ codes "                     loaded in one commit; or ends, for a list that grows: by"
     ++ 10 ∷ codes "                     rank, but what is lower than all goes right behind what it"
     ++ 10 ∷ codes "                     must stand behind, and what is higher right before it"
+    ++ 10 ∷ codes "    --removals R     of scripts of one table, when removals of commits go: last,"
+    ++ 10 ∷ codes "                     the default; or first where they may, as a commit of their"
+    ++ 10 ∷ codes "                     own, so that their slots are free for the rest"
     ++ 10 ∷ codes "    --trace          a line for each device write and drain; not for gen"
     ++ 10 ∷ codes "    --names          with --trace, of scripts of one table: what each write does"
     ++ 10 ∷ codes "                     and what an entry tests, by the names and words of scripts"
@@ -116,6 +119,9 @@ slots_line = codes "    --slots N        N slots in use, 1 to 4096, by default 4
 unfoldable pub placement_line : List ℕ
 placement_line = codes "    --placement P    where a new entry aims: middle, the default, rank or ends"
 
+unfoldable pub removals_line : List ℕ
+removals_line = codes "    --removals R     when removals go: last, by default, or first where they may"
+
 unfoldable pub trace_option : List ℕ
 trace_option = codes "    --trace          a line for each device write and drain"
 
@@ -137,7 +143,7 @@ list_options = slots_line
 -- the help of a script of routes, by its subcommand: its commands, their words, options and an example
 unfoldable pub route_help_of : List ℕ → List ℕ → Named → List ℕ
 route_help_of command rules named = codes "tcam " ++ command ++ codes ": carries out a script of " ++ rules ++ codes ", and writes a report."
-    ++ 10 ∷ 10 ∷ codes "    tcam " ++ command ++ codes " [--slots N] [--placement P] [--trace] [--names] [--depth K] [--json] < FILE"
+    ++ 10 ∷ 10 ∷ codes "    tcam " ++ command ++ codes " [--slots N] [--placement P] [--removals R] [--trace] [--names] [--depth K] [--json] < FILE"
     ++ 10 ∷ 10 ∷ codes "Commands of a script, one a line:"
     ++ 10 ∷ codes "    route add PREFIX RESULT    a new route: packets to the prefix get RESULT,"
     ++ 10 ∷ codes "                               unless a route of a longer prefix holds"
@@ -155,6 +161,7 @@ route_help_of command rules named = codes "tcam " ++ command ++ codes ": carries
     ++ 10 ∷ 10 ∷ codes "Options, of which tcam --help says more:"
     ++ 10 ∷ slots_line
     ++ 10 ∷ placement_line
+    ++ 10 ∷ removals_line
     ++ 10 ∷ trace_option
     ++ 10 ∷ names_option
     ++ 10 ∷ depth_line
@@ -175,7 +182,7 @@ route6_help = route_help_of (codes "route6") (codes "IPv6 routes") ipv6_named
 -- the help of a script of an access list, likewise
 unfoldable pub acl_help_of : List ℕ → List ℕ → Named → List ℕ
 acl_help_of command rules named = codes "tcam " ++ command ++ codes ": carries out a script of " ++ rules ++ codes ", and writes a report."
-    ++ 10 ∷ 10 ∷ codes "    tcam " ++ command ++ codes " [--slots N] [--ranges R] [--placement P] [--trace] [--names] [--depth K] [--json] < FILE"
+    ++ 10 ∷ 10 ∷ codes "    tcam " ++ command ++ codes " [--slots N] [--ranges R] [--placement P] [--removals R] [--trace] [--names] [--depth K] [--json] < FILE"
     ++ 10 ∷ 10 ∷ codes "Commands of a script, one a line, with the source's side and ports first:"
     ++ 10 ∷ codes "    acl add SEQ ACTION SIDE SIDE PROTOSPEC PORTSPEC PORTSPEC"
     ++ 10 ∷ codes "                               a new rule: packets that meet its conditions"
@@ -195,6 +202,7 @@ acl_help_of command rules named = codes "tcam " ++ command ++ codes ": carries o
     ++ 10 ∷ codes "    SPORT, DPORT   a number up to 65535"
     ++ 10 ∷ 10 ∷ codes "Options, of which tcam --help says more:"
     ++ 10 ∷ list_options
+    ++ 10 ∷ removals_line
     ++ 10 ∷ trace_option
     ++ 10 ∷ names_option
     ++ 10 ∷ depth_line

@@ -37,8 +37,8 @@ Reports taken accepted faults old new verified.Memory status = (status ≡ Memor
 Reports taken accepted faults old new answer status =
     (told : TraceAnswer) × (told_of answer ≡ Some told) × ClosesReport taken accepted faults old new (told_line told) (told_status told) status
 
--- A run between two lines: no commit is under way, the sink hasn't failed, and there are no more commits than bytes
--- taken, since a line takes one.
+-- A run between two lines: no commit is under way, the sink hasn't failed, and there are no more commits than bytes taken,
+-- since a line of a commit takes two, and makes two at most.
 pub record IsBetweenLines (held : HeldBytes) (run : Running) : Type 0 where
   pub idle : run.manager.held ≡ None
   pub whole : run.broken ≡ false

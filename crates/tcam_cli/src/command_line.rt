@@ -3,7 +3,7 @@
 ghost use Rattle.std.specs.Prelude.{◌≡◌, codes, Err, IfOk, IsErrOf, IfSome, IsNone, None, false, true, map, string_bytes};
 ghost use Rattle.clap.specs.Words.{app_of, rule_of, rows_of, found_of, subcommand_rows_of, kind_of};
 ghost use Rattle.clap.specs.declared.builder.command.Command.TheViews.{out-Command};
-ghost use Rattle.tcam_cli.specs.CommandLine.{job_of, job_of_fault, mode_wanted, topic_in, topic_named, verify_app, acl_app, depth_option, gen_app, json_flag, names_flag, route_app, tcam_app};
+ghost use Rattle.tcam_cli.specs.CommandLine.{job_of, job_of_fault, mode_wanted, topic_in, topic_named, verify_app, acl_app, depth_option, gen_app, json_flag, names_flag, removals_in, removals_option, parted_by, route_app, tcam_app};
 ghost use Rattle.tcam_cli.specs.Asked.{IsInRange, asked_by, tested_job, tested_made, tested_script};
 ghost use Rattle.tcam_cli.specs.Headline.{NoJob};
 
@@ -23,8 +23,8 @@ use std::alloc::{AllocError, Global};
 pub enum Asked {
     /// A script of this family from the source, with so many slots in use, 1 to 4,096, where port ranges are tested as
     /// the mode says and each insertion aims as the placement says, with a trace or without, with the words of probes
-    /// searched after so many further writes, at most 15, with a report in JSON or without, and with a trace by names or by
-    /// the words of the device.
+    /// searched after so many further writes, at most 15, with a report in JSON or without, with a trace by names or by the
+    /// words of the device, and with removals first where they may or last.
     Script {
         family: Family,
         slots: u32,
@@ -34,6 +34,7 @@ pub enum Asked {
         depth: u32,
         json: bool,
         names: bool,
+        parts: bool,
     },
     /// Commands of an access list that are made from a seed up to 2,147,483,647, 1 to 64 batches of 1 to 256 rules
     /// each, over so many slots, in this mode and by this placement, and without a trace. No source is read.
@@ -85,6 +86,17 @@ fn names_arg<'a>(alloc: Global) -> Arg<'a>
         .action(ArgAction::SetTrue)
 }
 
+/// When removals go.
+fn removals_arg<'a>(alloc: Global) -> Arg<'a>
+    ensures rule { rule_of result ≡ removals_option }
+    ensures global { result.global ≡ false }
+{
+    Arg::new(alloc, "removals")
+        .long("removals")
+        .action(ArgAction::Set)
+        .default_value("last")
+}
+
 /// A subcommand for route scripts, by its name.
 fn route_command<'a>(alloc: Global, name: &'a str) -> Result<Command<'a>, AllocError>
     ensures app { IfOk result (λ c. app_of c ≡ route_app name.entry.now) }
@@ -97,7 +109,8 @@ fn route_command<'a>(alloc: Global, name: &'a str) -> Result<Command<'a>, AllocE
             .arg(trace_arg(alloc))?
             .arg(depth_arg(alloc))?
             .arg(json_arg(alloc))?
-            .arg(names_arg(alloc))?,
+            .arg(names_arg(alloc))?
+            .arg(removals_arg(alloc))?,
     )
 }
 
@@ -114,7 +127,8 @@ fn acl_command<'a>(alloc: Global, name: &'a str) -> Result<Command<'a>, AllocErr
             .arg(trace_arg(alloc))?
             .arg(depth_arg(alloc))?
             .arg(json_arg(alloc))?
-            .arg(names_arg(alloc))?,
+            .arg(names_arg(alloc))?
+            .arg(removals_arg(alloc))?,
     )
 }
 
@@ -213,7 +227,19 @@ fn job_of_script(family: Family, found: &ArgMatches) -> Option<Asked>
         depth: number_of(text_of(found, "depth"), 0, 15)?,
         json: text_of(found, "json") == "true",
         names: text_of(found, "names") == "true",
+        parts: removals_of(text_of(found, "removals"))?,
     })
+}
+
+/// Whether removals go first, where the word says when they go.
+pub fn removals_of(word: &str) -> Option<bool>
+    ensures { result ≡ removals_in word.now }
+{
+    match word {
+        "last" => Some(false),
+        "first" => Some(true),
+        _ => None,
+    }
 }
 
 /// The job of the arguments of the subcommand for made commands.

@@ -79,6 +79,7 @@
 #![tactic(auto)]
 
 mod command_line;
+mod in_two;
 mod own_texts;
 mod top;
 mod traces;

@@ -65,6 +65,9 @@ Options:
                      loaded in one commit; or ends, for a list that grows: by
                      rank, but what is lower than all goes right behind what it
                      must stand behind, and what is higher right before it
+    --removals R     of scripts of one table, when removals of commits go: last,
+                     the default; or first where they may, as a commit of their
+                     own, so that their slots are free for the rest
     --trace          a line for each device write and drain; not for gen
     --names          with --trace, of scripts of one table: what each write does
                      and what an entry tests, by the names and words of scripts
@@ -96,7 +99,7 @@ The manual is docs/SCRIPT.md.
 const ROUTE_HELP: &str = "\
 tcam route: carries out a script of routes, and writes a report.
 
-    tcam route [--slots N] [--placement P] [--trace] [--names] [--depth K] [--json] < FILE
+    tcam route [--slots N] [--placement P] [--removals R] [--trace] [--names] [--depth K] [--json] < FILE
 
 Commands of a script, one a line:
     route add PREFIX RESULT    a new route: packets to the prefix get RESULT,
@@ -123,6 +126,7 @@ Commands of a script, one a line:
 Options, of which tcam --help says more:
     --slots N        N slots in use, 1 to 4096, by default 4096
     --placement P    where a new entry aims: middle, the default, rank or ends
+    --removals R     when removals go: last, by default, or first where they may
     --trace          a line for each device write and drain
     --names          with --trace, what each write does, by the names of rules
     --depth K        probes are searched K writes later, 0 to 15, by default 0
@@ -140,7 +144,7 @@ The manual is docs/SCRIPT.md.
 const ACL_HELP: &str = "\
 tcam acl: carries out a script of an access list, and writes a report.
 
-    tcam acl [--slots N] [--ranges R] [--placement P] [--trace] [--names] [--depth K] [--json] < FILE
+    tcam acl [--slots N] [--ranges R] [--placement P] [--removals R] [--trace] [--names] [--depth K] [--json] < FILE
 
 Commands of a script, one a line, with the source's side and ports first:
     acl add SEQ ACTION SIDE SIDE PROTOSPEC PORTSPEC PORTSPEC
@@ -171,6 +175,7 @@ Options, of which tcam --help says more:
     --slots N        N slots in use, 1 to 4096, by default 4096
     --ranges R       how port ranges are tested: cover, the default, or bits
     --placement P    where a new entry aims: middle, the default, rank or ends
+    --removals R     when removals go: last, by default, or first where they may
     --trace          a line for each device write and drain
     --names          with --trace, what each write does, by the names of rules
     --depth K        probes are searched K writes later, 0 to 15, by default 0
@@ -188,7 +193,7 @@ The manual is docs/SCRIPT.md.
 const ROUTE6_HELP: &str = "\
 tcam route6: carries out a script of IPv6 routes, and writes a report.
 
-    tcam route6 [--slots N] [--placement P] [--trace] [--names] [--depth K] [--json] < FILE
+    tcam route6 [--slots N] [--placement P] [--removals R] [--trace] [--names] [--depth K] [--json] < FILE
 
 Commands of a script, one a line:
     route add PREFIX RESULT    a new route: packets to the prefix get RESULT,
@@ -215,6 +220,7 @@ Commands of a script, one a line:
 Options, of which tcam --help says more:
     --slots N        N slots in use, 1 to 4096, by default 4096
     --placement P    where a new entry aims: middle, the default, rank or ends
+    --removals R     when removals go: last, by default, or first where they may
     --trace          a line for each device write and drain
     --names          with --trace, what each write does, by the names of rules
     --depth K        probes are searched K writes later, 0 to 15, by default 0
@@ -232,7 +238,7 @@ The manual is docs/SCRIPT.md.
 const ACL6_HELP: &str = "\
 tcam acl6: carries out a script of an IPv6 access list, and writes a report.
 
-    tcam acl6 [--slots N] [--ranges R] [--placement P] [--trace] [--names] [--depth K] [--json] < FILE
+    tcam acl6 [--slots N] [--ranges R] [--placement P] [--removals R] [--trace] [--names] [--depth K] [--json] < FILE
 
 Commands of a script, one a line, with the source's side and ports first:
     acl add SEQ ACTION SIDE SIDE PROTOSPEC PORTSPEC PORTSPEC
@@ -263,6 +269,7 @@ Options, of which tcam --help says more:
     --slots N        N slots in use, 1 to 4096, by default 4096
     --ranges R       how port ranges are tested: cover, the default, or bits
     --placement P    where a new entry aims: middle, the default, rank or ends
+    --removals R     when removals go: last, by default, or first where they may
     --trace          a line for each device write and drain
     --names          with --trace, what each write does, by the names of rules
     --depth K        probes are searched K writes later, 0 to 15, by default 0

@@ -24,18 +24,19 @@ ghost use Rattle.tcam_cli.specs.MadeScript.{made_act};
 ghost use Rattle.tcam_cli.specs.Readings.{acl_act, acl_reading, common_act, reading, reading_by, route_act, route_reading, told_by};
 ghost use Rattle.script_runs.specs.Rounds.{RoundsBy, outputs};
 ghost use Rattle.route_reader.specs.Routes as routes;
-ghost use Rattle.tcam_cli.specs.Rounds.{ClosesReport, IsBetweenLines, status_of_fault};
+ghost use Rattle.tcam_cli.specs.Rounds.{ClosesReport, IsBetweenLines};
 ghost use Rattle.tcam_device.specs.View.{journal};
 
 use crate::Status;
 use crate::command_line::{Asked, read_words};
+use crate::in_two::{apply_by, status_of_fault};
 use crate::own_texts::{VERSION, help_of};
 use crate::traces::run_verify;
 use acl_reader::{AclCommand, read_acl};
 use line_words::{CommonCommand, WordFault};
 use option_words::WordsFault;
 use replay::Family::Acl;
-use replay::{Act, ActFault, Family, Run, RunFault, write_text};
+use replay::{Act, ActFault, Family, Run, write_text};
 use route_reader::{RouteCommand, read_route, route_of, route_rank};
 use rule_gen::{Made, Maker};
 use rule_model::{IpVersion, Prefix, list_rank};
@@ -112,11 +113,12 @@ pub fn run<S: Source, K: Sink, D: ReadBack>(
                 depth,
                 json,
                 names,
+                parts,
             },
         ) => match Run::new(
             alloc, slots, mode, placement, family, trace, depth, json, names,
         ) {
-            Ok(mut run) => run_script(&mut run, source, sink, device),
+            Ok(run) => run_script(&mut run.with_removals_first(parts), source, sink, device),
             Err(_) => Status::Memory,
         },
         Ok(
@@ -173,8 +175,8 @@ fn run_script<S: Source, K: Sink, D: ReadBack>(
     }
 }
 
-/// Carries out the next line. None: the run goes on. A line takes a byte at least, so that no script has more commits
-/// than a run counts.
+/// Carries out the next line. None: the run goes on. A line of a commit takes two bytes at least and makes two commits at
+/// most, so that no script has more commits than a run counts.
 fn round<S: Source, K: Sink, D: ReadBack>(
     lines: &mut Lines,
     run: &mut Run,
@@ -216,7 +218,7 @@ fn round<S: Source, K: Sink, D: ReadBack>(
         Ok(None) => return None,
         Ok(Some(act)) => act,
     };
-    match run.apply(&act, sink, device) {
+    match apply_by(run, &act, sink, device) {
         Ok(()) => None,
         Err(ActFault::BatchFull) => Some(fault(run, line.number, "batch full", sink)),
         Err(ActFault::ChangesPending) => Some(fault(run, line.number, "changes pending", sink)),
@@ -244,6 +246,7 @@ fn run_made<K: Sink, D: ReadBack>(
     requires most_batches { batches ≤ 64 }
     requires family { run.old.family ≡ Family.Acl }
     requires words { run.old.json ≡ false }
+    requires in_one { run.old.parts ≡ false }
     requires slots { run.old.manager.slots ≤ (D.view device.old).slots }
     requires idle { run.old.manager.held ≡ None }
     requires whole { run.old.broken ≡ false }
@@ -280,18 +283,6 @@ fn act_of_made(made: &Made) -> Act
     }
 }
 
-/// How a run ends at an act that was stopped.
-fn status_of_fault(fault: &RunFault) -> Status
-    ensures status { result ≡ status_of_fault fault.now }
-    ensures kind { (result ≢ Status.Usage) × (result ≢ Status.ReadFault) }
-{
-    match fault {
-        RunFault::Sink => Status::WriteFault,
-        RunFault::Device => Status::DeviceFault,
-        RunFault::Memory => Status::Memory,
-    }
-}
-
 /// What a line does in a script of the run's family, or the text of its fault. With a report in JSON a trial and a crash
 /// are faults.
 fn read_act(run: &Run, line: &Line) -> Result<Option<Act>, &'static str>
@@ -299,6 +290,7 @@ fn read_act(run: &Run, line: &Line) -> Result<Option<Act>, &'static str>
     ensures ok { IfOk result (λ found. reading_by (setting_of run.now) (numbered line.now).text ≡ Ok found) }
     ensures err { IfErr result (λ text. reading_by (setting_of run.now) (numbered line.now).text ≡ Err text.now) }
     ensures act { IfOk result (λ found. IfSome found (IsActOf run.now.family)) }
+    ensures long { IfOk result (λ found. IfSome found (λ _. 2 ≤ line.now.len)) }
     ensures told { IfOk result (λ found. IfSome found (IsToldIn run.now.json (family_version run.now.family))) }
     ensures short { IfErr result (λ text. length text.now ≤ 32) }
     ensures plain { IfErr result (λ text. IsPlainText text.now) }

@@ -142,7 +142,7 @@ module _ (slots : ℕ) (before : Progress) (front : List Effect) (inside run : R
     new-is = (ends.counted counted closed).0
 
     -- the line of its end
-    own-same : ended_line counted.json counted.commits inside.fate end count.told ≡ rest.line
+    own-same : ended_line counted.json counted.early counted.commits inside.fate end count.told ≡ rest.line
     own-same = (ends.counted counted closed).1
 
     -- the lines of the words that are searched behind the last action
@@ -191,14 +191,14 @@ module _ (slots : ℕ) (before : Progress) (front : List Effect) (inside run : R
       last-told = subst (λ lines. Appends mid searched (printed lines)) last-same last
 
       -- where it is finished, and its line is written
-      pub resumes-all : (taken : Option (List ℕ)) (flight_new : Flight) → Appends searched taken (ended_line counted.json counted.commits inside.fate end count.told) → ResumesTo slots before (commit_act run.fate) front run_now (Ok tt) (outside events_old old) (outside events_new taken) flight_new
+      pub resumes-all : (taken : Option (List ℕ)) (flight_new : Flight) → Appends searched taken (ended_line counted.json counted.early counted.commits inside.fate end count.told) → ResumesTo slots before (commit_act run.fate) front run_now (Ok tt) (outside events_old old) (outside events_new taken) flight_new
       resumes-all taken flight_new more =
           subst (λ (r : Running). Finishes slots before (commit_act r.fate) front run_now (outside events_old old) (outside events_new taken)) same
           (subst (λ (r : Running). Finishes slots before (commit_act inside.fate) front r (outside events_old old) (outside events_new taken)) (sym new-is)
           (finishes slots before front inside rest.course rest.line rest.ended rest.ending events_old events_new at-inside old mid grown-left told-left searched taken last-told (subst (Appends searched taken) own-same more)))
 
       -- or a part of it
-      pub resumes-last : (taken : Option (List ℕ)) (flight_new : Flight) → AppendsPart searched taken (ended_line counted.json counted.commits inside.fate end count.told) → ResumesTo slots before (commit_act run.fate) front run_now (Err fault.Sink) (outside events_old old) (outside events_new taken) flight_new
+      pub resumes-last : (taken : Option (List ℕ)) (flight_new : Flight) → AppendsPart searched taken (ended_line counted.json counted.early counted.commits inside.fate end count.told) → ResumesTo slots before (commit_act run.fate) front run_now (Err fault.Sink) (outside events_old old) (outside events_new taken) flight_new
       resumes-last taken flight_new part =
           as-now taken
           (breaks-last slots before front inside rest.course rest.line rest.ended rest.ending events_old events_new at-inside old mid grown-left told-left searched taken last-told (subst (AppendsPart searched taken) own-same part))

@@ -220,7 +220,7 @@ module _ (run : Running) (half : IsHalfway run) where
   -- the line that it ends with
   abbrev pub line_by : Bool → List ℕ
   line_by true = aborted_line (run.commits + 1) (length (writes_in whole_actions))
-  line_by false = done_line run.json (run.commits + 1) half.holds.0
+  line_by false = done_line run.json run.early (run.commits + 1) half.holds.0
 
   abbrev pub line : List ℕ
   line = line_by is_back
@@ -394,10 +394,10 @@ module _ (Seen : Type 0) (run : Running) (half : IsHalfway run) (watch : Watchin
     setting-counted = ap (λ (r : Running). setting_of (record r { writes = r.writes + count_now.told })) closed ∙ setting-now
 
     -- the line is that of its end
-    pub line-same : ended_line counted.json counted.commits run.fate end count_now.told ≡ line run half
+    pub line-same : ended_line counted.json counted.early counted.commits run.fate end count_now.told ≡ line run half
     line-same = go end ends-so
       where
-        first-line : (fate : Fate) → IsFirst fate → (done : Done) → finished_line counted.json counted.commits fate done count_now.told ≡ done_line counted.json counted.commits done
+        first-line : (fate : Fate) → IsFirst fate → (done : Done) → finished_line counted.json counted.early counted.commits fate done count_now.told ≡ done_line counted.json counted.early counted.commits done
         first-line ToTheEnd first done = refl
         first-line (BackAfter most) first done = refl
         first-line (CrashAfter after) first done = refl
@@ -406,9 +406,9 @@ module _ (Seen : Type 0) (run : Running) (half : IsHalfway run) (watch : Watchin
         counts-same : half.some.one.counts ≡ half.holds.0
         counts-same = half.some.same.counts ∙ ap (λ (one : HeldCommit). one.counts) (held-same run half)
 
-        go : (end : Ended) → EndsBy (is_back run half) run.manager half.some.one half.some.left end now → ended_line counted.json counted.commits run.fate end count_now.told ≡ line run half
+        go : (end : Ended) → EndsBy (is_back run half) run.manager half.some.one half.some.left end now → ended_line counted.json counted.early counted.commits run.fate end count_now.told ≡ line run half
         go (ended.Finished done) ends =
             first-line run.fate half.first done
-            ∙ ap (λ (r : Running). done_line r.json r.commits done) closed ∙ ap (done_line run.json (run.commits + 1)) (ends.1 ∙ counts-same) ∙ ap (line_by run half) (sym ends.0)
+            ∙ ap (λ (r : Running). done_line r.json r.early r.commits done) closed ∙ ap (done_line run.json run.early (run.commits + 1)) (ends.1 ∙ counts-same) ∙ ap (line_by run half) (sym ends.0)
         go ended.Reverted ends =
             ap (λ (r : Running). aborted_line r.commits count_now.told) closed ∙ ap (aborted_line (run.commits + 1)) number-whole ∙ ap (line_by run half) (sym ends.0)

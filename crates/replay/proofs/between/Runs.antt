@@ -265,7 +265,7 @@ module _ (run : Running) (counts : Done) (is : IsRun run) (holds : Holds (record
 
   -- the commit, as what it writes and prints
   abbrev pub commits-with : (slots : ℕ) → run.manager.slots ≤ slots → (effects : List Effect)
-      → effects ≡ carried (setting_of run) (progress_of slots run) (actions_for (setting_of run) (progress_of slots run) holds.made) ++ Prints (done_line run.json (run.commits + 1) counts) ∷ []
+      → effects ≡ carried (setting_of run) (progress_of slots run) (actions_for (setting_of run) (progress_of slots run) holds.made) ++ Prints (done_line run.json run.early (run.commits + 1) counts) ∷ []
       → Commits (setting_of run) (progress_of slots run) effects (progress_of slots (run_after run holds.made counts))
   commits-with slots within effects same = record {
     made = holds.made;

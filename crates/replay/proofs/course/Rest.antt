@@ -33,7 +33,7 @@ pub record EndsWith (run : Running) (now : Managed) (count : Count) (end : Ended
   pub closing : IsRun (record run { manager = now; told = 0; waiting = 0; fate = fates.ToTheEnd })
   pub ended_is : IsRun ended
   pub counted : (counted : Running) → counted ≡ record run { manager = now; told = 0; waiting = 0; fate = fates.ToTheEnd; pending = []; commits = run.commits + 1 }
-      → (◌≡◌ {A = Running} (record counted { writes = counted.writes + count.told }) ended) × (ended_line counted.json counted.commits run.fate end count.told ≡ line)
+      → (◌≡◌ {A = Running} (record counted { writes = counted.writes + count.told }) ended) × (ended_line counted.json counted.early counted.commits run.fate end count.told ≡ line)
 
 -- its course to its end, and what making its actions comes to
 pub record Rest (slots : ℕ) (before : Progress) (front : List Effect) (run : Running) : Type 1 where

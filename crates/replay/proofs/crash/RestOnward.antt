@@ -186,9 +186,9 @@ module _ (slots : ℕ) (run : Running) (onward : IsOnward slots run) (is : IsRun
         }
 
         line-over : (counted : Running) → counted ≡ record run { manager = now; told = 0; waiting = 0; fate = fates.ToTheEnd; pending = []; commits = run.commits + 1 }
-            → (end : Ended) → EndsBy (goes_back None all.held) run.manager all.held all.actions end now → ended_line counted.json counted.commits run.fate end count.told ≡ line_over slots run onward is inside
+            → (end : Ended) → EndsBy (goes_back None all.held) run.manager all.held all.actions end now → ended_line counted.json counted.early counted.commits run.fate end count.told ≡ line_over slots run onward is inside
         line-over counted closed (ended.Finished done) ends =
-            ap (λ fate. finished_line counted.json counted.commits fate done count.told) onward.fate_is
+            ap (λ fate. finished_line counted.json counted.early counted.commits fate done count.told) onward.fate_is
             ∙ ap (λ (r : Running). restarted_line r.commits onward.after count.told) closed
             ∙ ap (restarted_line (run.commits + 1) onward.after) number-whole
         line-over counted closed ended.Reverted ends = absurd (let bad : true ≡ false = sym ends.0 ∙ forward in cc)

@@ -100,7 +100,7 @@ module _ (slots after : ℕ) (base : Running) (half : IsHalfway (crashing after 
   first-made = sym (first-before (subst (λ n. after < n) (sym whole-writes) more)) ∙ ap (up_to_writes after) whole-commit
 
   abbrev whole_commit_effects : List Effect
-  whole_commit_effects = carried begun_setting first (actions_for begun_setting first half.holds.1.made) ++ Prints (done_line run.json (run.commits + 1) half.holds.0) ∷ []
+  whole_commit_effects = carried begun_setting first (actions_for begun_setting first half.holds.1.made) ++ Prints (done_line run.json run.early (run.commits + 1) half.holds.0) ∷ []
 
   pub crashes-in : CrashesIn (setting_of run) first after half.holds.1.made
   crashes-in = subst (λ setting. CrashesIn setting first after half.holds.1.made) (sym (setting-begun run half)) (record {

@@ -11,4 +11,5 @@ returns-clause-app c =
     let trace = c.in_ok-arg-3.ensures.shape c.trace_arg.ensures.global ∙ ap₂ with_rule placement c.trace_arg.ensures.rule in
     let depth = c.in_ok-arg-4.ensures.shape c.depth_arg.ensures.global ∙ ap₂ with_rule trace c.depth_arg.ensures.rule in
     let json = c.in_ok-arg-5.ensures.shape c.json_arg.ensures.global ∙ ap₂ with_rule depth c.json_arg.ensures.rule in
-    c.in_ok-arg-6.ensures.shape c.names_arg.ensures.global ∙ ap₂ with_rule json c.names_arg.ensures.rule
+    let names = c.in_ok-arg-6.ensures.shape c.names_arg.ensures.global ∙ ap₂ with_rule json c.names_arg.ensures.rule in
+    c.in_ok-arg-7.ensures.shape c.removals_arg.ensures.global ∙ ap₂ with_rule names c.removals_arg.ensures.rule

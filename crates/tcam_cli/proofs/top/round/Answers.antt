@@ -96,7 +96,7 @@ returns-in-Ok-clause-gives g c =
       λ which. rounds-none (run_kind setting slots) _ _ _ _ _ _ _ _ _ _ h.ensures.gives.2 (λ bytes left now start may s. grows-of setting slots _ _ _ _ _ _ (c.in-Ok.ensures.acts which (so-far-at setting slots _ _ _ _ _ _ _ s)).does)
           (λ bytes begun now start may s.
           goes-on setting slots bytes _ begun _ _ start _ s h.line c.next.new.self now (rw h.field-0-is at h.ensures.again) (λ going. rw h.field-0-is at (h.ensures.gives.2.hands going begun now may))
-          _ (c.in-Ok-Some-read_act.ensures.ok ∙ ap Ok c.in-Ok-Some-read_act.field-0-is) (sym (c.in-Ok.ensures.limit c.requires.stands.idle)) _ _ _ (c.in-Ok.ensures.acts which)),
+          _ (c.in-Ok-Some-read_act.ensures.ok ∙ ap Ok c.in-Ok-Some-read_act.field-0-is) (sym c.in-Ok.ensures.limit) _ _ _ (c.in-Ok.ensures.acts which)),
     )
 
 pub returns-in-Err-BatchFull-clause-gives : goal.returns-in-Err-BatchFull-clause-gives
@@ -110,7 +110,7 @@ returns-in-Err-BatchFull-clause-gives g c =
           (λ bytes taken begun now start may parts s.
           let same = rw c.in-Err-BatchFull.field-0-is at (c.in-Err-BatchFull.ensures.acts which) in
           rw same.events (exit-full _ joins bytes _ begun _ _ start _ s h.line c.next.new.self now (rw h.field-0-is at h.ensures.again) (λ going. rw h.field-0-is at (h.ensures.gives.2.hands going begun now may))
-          taken _ _ _ _ (c.in-Ok-Some-read_act.ensures.ok ∙ ap Ok c.in-Ok-Some-read_act.field-0-is) (sym (rw c.in-Err-BatchFull.field-0-is at (c.in-Err-BatchFull.ensures.limit c.requires.stands.idle))) (closes-by c.args.run.now c.apply.new.self h.line.number (codes "batch full") _ _ _ same.run (rw same.report at (c.fault-in-Err-BatchFull.ensures.closes.closes which))))),
+          taken _ _ _ _ (c.in-Ok-Some-read_act.ensures.ok ∙ ap Ok c.in-Ok-Some-read_act.field-0-is) (sym (rw c.in-Err-BatchFull.field-0-is at c.in-Err-BatchFull.ensures.limit)) (closes-by c.args.run.now c.apply_by.new.run h.line.number (codes "batch full") _ _ _ same.run (rw same.report at (c.fault-in-Err-BatchFull.ensures.closes.closes which))))),
     )
 
 pub returns-in-Err-ChangesPending-clause-gives : goal.returns-in-Err-ChangesPending-clause-gives
@@ -124,7 +124,7 @@ returns-in-Err-ChangesPending-clause-gives g c =
           (λ bytes taken begun now start may parts s.
           let same = rw c.in-Err-ChangesPending.field-0-is at (c.in-Err-ChangesPending.ensures.acts which) in
           rw same.events (exit-full _ joins bytes _ begun _ _ start _ s h.line c.next.new.self now (rw h.field-0-is at h.ensures.again) (λ going. rw h.field-0-is at (h.ensures.gives.2.hands going begun now may))
-          taken _ _ _ _ (c.in-Ok-Some-read_act.ensures.ok ∙ ap Ok c.in-Ok-Some-read_act.field-0-is) (sym (rw c.in-Err-ChangesPending.field-0-is at (c.in-Err-ChangesPending.ensures.limit c.requires.stands.idle))) (closes-by c.args.run.now c.apply.new.self h.line.number (codes "changes pending") _ _ _ same.run (rw same.report at (c.fault-in-Err-ChangesPending.ensures.closes.closes which))))),
+          taken _ _ _ _ (c.in-Ok-Some-read_act.ensures.ok ∙ ap Ok c.in-Ok-Some-read_act.field-0-is) (sym (rw c.in-Err-ChangesPending.field-0-is at c.in-Err-ChangesPending.ensures.limit)) (closes-by c.args.run.now c.apply_by.new.run h.line.number (codes "changes pending") _ _ _ same.run (rw same.report at (c.fault-in-Err-ChangesPending.ensures.closes.closes which))))),
     )
 
 pub returns-in-Err-ProbesFull-clause-gives : goal.returns-in-Err-ProbesFull-clause-gives
@@ -138,7 +138,7 @@ returns-in-Err-ProbesFull-clause-gives g c =
           (λ bytes taken begun now start may parts s.
           let same = rw c.in-Err-ProbesFull.field-0-is at (c.in-Err-ProbesFull.ensures.acts which) in
           rw same.events (exit-full _ joins bytes _ begun _ _ start _ s h.line c.next.new.self now (rw h.field-0-is at h.ensures.again) (λ going. rw h.field-0-is at (h.ensures.gives.2.hands going begun now may))
-          taken _ _ _ _ (c.in-Ok-Some-read_act.ensures.ok ∙ ap Ok c.in-Ok-Some-read_act.field-0-is) (sym (rw c.in-Err-ProbesFull.field-0-is at (c.in-Err-ProbesFull.ensures.limit c.requires.stands.idle))) (closes-by c.args.run.now c.apply.new.self h.line.number (codes "too many probes") _ _ _ same.run (rw same.report at (c.fault-in-Err-ProbesFull.ensures.closes.closes which))))),
+          taken _ _ _ _ (c.in-Ok-Some-read_act.ensures.ok ∙ ap Ok c.in-Ok-Some-read_act.field-0-is) (sym (rw c.in-Err-ProbesFull.field-0-is at c.in-Err-ProbesFull.ensures.limit)) (closes-by c.args.run.now c.apply_by.new.run h.line.number (codes "too many probes") _ _ _ same.run (rw same.report at (c.fault-in-Err-ProbesFull.ensures.closes.closes which))))),
     )
 
 pub returns-in-Err-Stopped-clause-gives : goal.returns-in-Err-Stopped-clause-gives
@@ -146,11 +146,11 @@ returns-in-Err-Stopped-clause-gives g c =
     let h = c.in-Ok-Some in
     let why = c.in-Err-Stopped.why in
     let is = c.in-Err-Stopped.field-0-is in
-    let full = sym (rw is at (c.in-Err-Stopped.ensures.limit c.requires.stands.idle)) in (
+    let full = sym (rw is at c.in-Err-Stopped.ensures.limit) in (
       h.ensures.gives.0,
       h.ensures.gives.1,
       λ which.
-          let comes = stops _ _ _ _ why _ _ _ _ (rw is at (c.in-Err-Stopped.ensures.acts which)) in
+          let comes = stops _ c.args.run.now _ c.apply_by.new.run why _ _ _ _ (rw is at (c.in-Err-Stopped.ensures.acts which)) in
           rw c.status_of_fault.ensures.status (rounds-stopped _ _ _ _ _ _ _ why _ _ _ _ _ _ h.ensures.gives.2
           (λ bytes left now start may s. stops-grows _ _ _ _ why _ _ _ _ (so-far-at _ _ _ _ _ _ _ _ _ s) comes)
           (λ bytes taken begun now start may parts s.
@@ -169,8 +169,7 @@ returns-in-Err-Stopped-clause-leaves g c =
 -- no commit is unfinished
 pub unreachable-requires : goal.unreachable-requires
 unreachable-requires g c =
-    let taken = rw c.requires.stands.idle at c.in-Err-Held.ensures.held in
-    taken c.in-Err-Held.field-0-0 (ap Err c.in-Err-Held.field-0-is)
+    c.in-Err-Held.ensures.held c.in-Err-Held.field-0-0 (ap Err c.in-Err-Held.field-0-is)
 
 pub returns-in-Err-ScriptTooLong-clause-leaves : goal.returns-in-Err-ScriptTooLong-clause-leaves
 returns-in-Err-ScriptTooLong-clause-leaves g c = some-leaves _ _ _ _ _ _ _ (closed-leaves _ _ g.K.Sink.accepted _ _ (g.D.Writable.view c.args.device.now) _ _ _ c.fault.ensures.kind.2 c.fault.ensures.closes)

@@ -10,11 +10,13 @@ use Rattle.report_lines.specs.Text.{family_version}
 use Rattle.replay.specs.Fates.{IsCrash}
 use Rattle.settled_changes.specs.Requested.{changes_in}
 use Rattle.replay.specs.Running.{IsActOf, IsToldIn, progress_of, setting_of}
-use Rattle.replay.specs.Carried.{Carries}
+use Rattle.replay.specs.declared.ActFault.TheVariants.{Stopped}
+use Rattle.tcam_cli.specs.InTwo.{CarriesBy}
+use Rattle.tcam_cli.proofs.TwoParts.{comes-one, in-one-part}
 use Rattle.replay.proofs.between.Leaving.{leaves-line, leaves-then, uncounted}
 use Rattle.tcam_cli.specs.MadeScript.{made_act}
 use Rattle.tcam_cli.proofs.FaultCounts.{closed-leaves, leaves-none, stopped-leaves}
-use Rattle.tcam_cli.proofs.MadeRuns.{MadeSoFar, made-at, made-ended, made-first, made-fits, made-more, made-pending, made-stopped, never-crash}
+use Rattle.tcam_cli.proofs.MadeRuns.{MadeSoFar, made-at, made-carries, made-ended, made-first, made-fits, made-more, made-pending, made-stopped, never-crash}
 use Rattle.tcam_cli.proofs.OneMore.{step-pending}
 use Rattle.tcam_cli.proofs.Outcomes.{Stops, stops}
 use Rattle.tcam_cli.proofs.top.run_made.Goals as goal
@@ -79,9 +81,10 @@ acts-preserved g c =
     let here : (which : Bool) → MadeSoFar (setting_of c.acts.run) (g.D.Writable.view c.acts.device).slots (made_commands c.args.seed c.args.rules c.args.batches) (c.in-Some.made ∷ c.next.new.self)
     (progress_of (g.D.Writable.view c.acts.device).slots c.acts.run) (g.D.Writable.view c.acts.device).events (counted which (g.K.Sink.taken c.args.sink.now) (g.K.Sink.accepted c.args.sink.now))
     (counted which (g.K.Sink.taken c.acts.sink) (g.K.Sink.accepted c.acts.sink)) = λ which. rw (i.setting, i.leaves.slots, ← next) (i.made which) in
-    let carried : (which : Bool) → Carries (setting_of c.acts.run) (progress_of (g.D.Writable.view c.acts.device).slots c.acts.run) (made_act c.in-Some.made) (progress_of (g.D.Writable.view c.acts.device).slots c.apply.new.self)
+    let in_one = ap (λ (s : Setting). s.parts) i.setting ∙ c.requires.in_one in
+    let carried : (which : Bool) → CarriesBy (setting_of c.acts.run) (progress_of (g.D.Writable.view c.acts.device).slots c.acts.run) (made_act c.in-Some.made) (progress_of (g.D.Writable.view c.acts.device).slots c.apply.new.self)
     (g.D.Writable.view c.acts.device).events (g.D.Writable.view c.apply.new.device).events (counted which (g.K.Sink.taken c.acts.sink) (g.K.Sink.accepted c.acts.sink)) (counted which (g.K.Sink.taken c.apply.new.sink) (g.K.Sink.accepted c.apply.new.sink)) =
-    λ which. rw (← c.act_of_made.ensures.act) (a.acts which (made-at _ _ _ _ _ _ _ _ (here which))) in
+    λ which. made-carries _ _ _ _ _ _ _ _ in_one (rw (← c.act_of_made.ensures.act) (a.acts which (made-at _ _ _ _ _ _ _ _ (here which)))) in
     let are = subst (λ (maker : List Made). AreBatches (2 * c.args.rules) (changes_in c.acts.run.pending c.acts.run.asked) maker) next i.room in
     record {
       setting = a.setting ∙ i.setting;
@@ -117,8 +120,10 @@ returns-in-Err-Stopped-clause-carried_out g c = λ which source.
     (counted which (g.K.Sink.taken c.args.sink.now) (g.K.Sink.accepted c.args.sink.now)) (counted which (g.K.Sink.taken c.acts.sink) (g.K.Sink.accepted c.acts.sink)) = rw (i.setting, i.leaves.slots, ← next) (i.made which) in
     let is : Stops slots (setting_of c.acts.run) (progress_of slots c.acts.run) (made_act c.in-Some.made) why (g.D.Writable.view c.acts.device).events (g.D.Writable.view c.apply.new.device).events
     (counted which (g.K.Sink.taken c.acts.sink) (g.K.Sink.accepted c.acts.sink)) (counted which (g.K.Sink.taken c.apply.new.sink) (g.K.Sink.accepted c.apply.new.sink)) =
+    let in_one = ap (λ (s : Setting). s.parts) i.setting ∙ c.requires.in_one in
     rw (← c.act_of_made.ensures.act) (stops slots c.acts.run c.act_of_made.result c.apply.new.self why (g.D.Writable.view c.acts.device).events (g.D.Writable.view c.apply.new.device).events
-    (counted which (g.K.Sink.taken c.acts.sink) (g.K.Sink.accepted c.acts.sink)) (counted which (g.K.Sink.taken c.apply.new.sink) (g.K.Sink.accepted c.apply.new.sink)) (rw c.in-Err-Stopped.field-0-is at (c.in-Err-Stopped.ensures.acts which))) in
+    (counted which (g.K.Sink.taken c.acts.sink) (g.K.Sink.accepted c.acts.sink)) (counted which (g.K.Sink.taken c.apply.new.sink) (g.K.Sink.accepted c.apply.new.sink))
+    (comes-one slots c.acts.run c.act_of_made.result c.apply.new.self (Err (Stopped why)) _ _ _ _ (in-one-part (setting_of c.acts.run) (progress_of slots c.acts.run) c.act_of_made.result in_one) (rw c.in-Err-Stopped.field-0-is at (c.in-Err-Stopped.ensures.acts which)))) in
     rw (c.status_of_fault.ensures.status, c.in-Err-Stopped.field-0-is, ← i.setting, ← i.leaves.slots)
     (made-stopped (setting_of c.acts.run) slots c.args.seed c.args.rules c.args.batches c.next.new.self c.in-Some.made (progress_of slots c.acts.run) _ _ _ _ _ why here is source)
 

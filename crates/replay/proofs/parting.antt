@@ -1,0 +1,4 @@
+-- Removals that go first, and the rest.
+pub mod Rest
+pub mod Copied
+pub mod Parts
