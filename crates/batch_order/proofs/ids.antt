@@ -1,4 +1,5 @@
 -- Ids of pieces: spare ones, those in the slots, and how many there are.
+pub mod AtIds
 pub mod Ids
 pub mod Numbered
 pub mod Filled

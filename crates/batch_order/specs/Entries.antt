@@ -1,5 +1,5 @@
 -- The entries that are live, each under an id.
-use Rattle.std.specs.Prelude.{◌≡◌, ℕ, ◌+◌, ◌<◌, ◌≤◌, IsTrue, IsFalse, Option, List, Contains, ◌++◌, ◌-◌, length, map, drop, nat_eq}
+use Rattle.std.specs.Prelude.{◌≡◌, ℕ, ◌+◌, ◌<◌, ◌≤◌, IsTrue, IsFalse, if◌then◌else◌, Option, Some, None, List, [], ◌∷◌, Contains, ◌++◌, ◌-◌, length, map, drop, nat_eq}
 use Rattle.std.specs.List.{AllByRecursion, IsDistinct}
 use Rattle.slot_order.specs.Order.{most_slots}
 use Rattle.rule_model.specs.declared.words.Entry.{Entry}
@@ -13,6 +13,15 @@ pub record Entries : Type 0 where
   pub slots : ℕ
   pub live : List LivePiece
   pub entries : List (Option Entry)
+
+-- the entries of the ids from one on that are live, by what is kept at each of them
+abbrev pub entries_from : List LivePiece → ℕ → List Entry → List (Option Entry)
+entries_from live id [] = []
+entries_from live id (entry ∷ kept) = (if is_live live id then Some entry else None) ∷ entries_from live (id + 1) kept
+
+-- the entry of each live id
+abbrev pub live_entries : List LivePiece → List Entry → List (Option Entry)
+live_entries live kept = entries_from live 0 kept
 
 -- each id has a place, and the ids that aren't live are the spare ones
 pub record AreKept (slots : ℕ) (live : List LivePiece) (entries : List (Option Entry)) (spare : List ℕ) : Type 0 where

@@ -12,7 +12,7 @@ ghost use Rattle.batch_order.specs.Entries.{AreAll, KeepEntries};
 
 use commit_writes::Rewrite;
 use overlap_index::Index;
-use rule_model::{Entry, Piece, Rank, entry_of};
+use rule_model::{Entry, LANES, Piece, Rank, Word, entry_of};
 use slot_order::MOST_SLOTS;
 use std::alloc::{AllocError, Global};
 use std::marker::Model;
@@ -21,21 +21,21 @@ use std::marker::Model;
 #[derive(Drop)]
 pub(crate) struct LiveEntries {
     index: Index,
-    /// The entry of each live id.
-    entries: Vec<Option<Entry>>,
+    /// The entry of each live id. What stands at another id is of no account: the index tells which are live.
+    entries: Vec<Entry>,
     /// The ids that aren't live.
     spare: Vec<u32>,
 }
 
 impl Model for LiveEntries {
     ghost use Rattle.std.specs.Prelude.{◌≤◌, vec_capacity};
-    ghost use Rattle.batch_order.specs.Entries.{Entries, AreKept};
+    ghost use Rattle.batch_order.specs.Entries.{Entries, AreKept, live_entries};
 
     ghost Value = { Entries };
 
-    ghost view = { λ l. record { slots = l.index.slots; live = l.index.live; entries = l.entries.items } };
+    ghost view = { λ l. record { slots = l.index.slots; live = l.index.live; entries = live_entries l.index.live l.entries.items } };
 
-    ghost invariant = { λ l. AreKept l.index.slots l.index.live l.entries.items l.spare.items × (l.index.slots ≤ vec_capacity l.spare) };
+    ghost invariant = { λ l. AreKept l.index.slots l.index.live (live_entries l.index.live l.entries.items) l.spare.items × (l.index.slots ≤ vec_capacity l.spare) };
 }
 
 impl LiveEntries {
@@ -47,10 +47,13 @@ impl LiveEntries {
         requires most { slots ≤ MOST_SLOTS }
         ensures { IfOk result (λ made. made ≡ record { slots = slots; live = []; entries = replicate slots None }) }
     {
+        let index = Index::new(alloc, slots)?;
+        let entries = places_for(alloc, slots)?;
+        let spare = all_ids(alloc, slots)?;
         Ok(LiveEntries {
-            index: Index::new(alloc, slots)?,
-            entries: no_entries(alloc, slots)?,
-            spare: all_ids(alloc, slots)?,
+            index,
+            entries,
+            spare,
         })
     }
 
@@ -73,9 +76,11 @@ impl LiveEntries {
     pub(crate) fn at(&self, id: u32) -> Option<Entry>
         ensures { result ≡ slice_index_or self.now.entries id None }
     {
-        match self.entries.get(id as usize) {
-            Some(entry) => *entry,
-            None => None,
+        let live = self.index.is_live(id);
+        if live {
+            Some(self.entries[id as usize])
+        } else {
+            None
         }
     }
 
@@ -94,7 +99,7 @@ impl LiveEntries {
         let id = self.spare[self.spare.len() - 1];
         self.index.add(id, piece, tag)?;
         self.spare.pop();
-        self.entries[id as usize] = Some(entry_of(piece, tag, answer));
+        self.entries[id as usize] = entry_of(piece, tag, answer);
         Ok(id)
     }
 
@@ -125,7 +130,7 @@ impl LiveEntries {
         ensures entries { self.new.entries ≡ slice_set self.old.entries rewrite.now.id (Some rewrite.now.entry) }
         ensures slots { self.new.slots ≡ self.old.slots }
     {
-        self.entries[rewrite.id as usize] = Some(rewrite.entry);
+        self.entries[rewrite.id as usize] = rewrite.entry;
     }
 
     /// Some ids are live no more.
@@ -150,20 +155,21 @@ impl LiveEntries {
         ensures slots { self.new.slots ≡ self.old.slots }
     {
         self.index.remove(id);
-        self.entries[id as usize] = None;
         self.spare.push_reserved(id);
     }
 }
 
-/// The places of so many entries, all empty.
-fn no_entries(alloc: Global, slots: u32) -> Result<Vec<Option<Entry>>, AllocError>
-    ensures { IfOk result (λ entries. entries.items ≡ replicate slots None) }
+/// The places of so many entries.
+fn places_for(alloc: Global, slots: u32) -> Result<Vec<Entry>, AllocError>
+    ensures { IfOk result (λ entries. length entries.items ≡ slots) }
 {
-    let mut entries = Vec::with_capacity(alloc, slots as usize)?;
-    for _ in 0..slots {
-        entries.push(None)?;
-    }
-    Ok(entries)
+    let blank = Entry {
+        value: Word { lane: [0; LANES] },
+        mask: Word { lane: [0; LANES] },
+        tag: Rank { high: 0, low: 0 },
+        result: 0,
+    };
+    Vec::from_elem(alloc, blank, slots as usize)
 }
 
 /// All ids, rising.

@@ -206,6 +206,7 @@ fn plan_moves(
     let first = plan.writes.moves.len();
     let moves = &mut plan.writes.moves;
     let undo = &mut plan.undo.moves;
+    let sides = &mut plan.sides;
     let insert = plan_insert(
         alloc,
         arrangement,
@@ -215,6 +216,7 @@ fn plan_moves(
         coming,
         moves,
         undo,
+        sides,
     )?;
     let puts = puts_from(&plan.writes.moves, first);
     plan.count(insert, puts);

@@ -136,6 +136,11 @@
 //!   their order are `all_writes` of the three. The price: what is planned by moves asks that no change is planned yet
 //!   (`IsPlannable`), a write is found by comparing its place with two lengths, and the planner's `Moves` may be pushed
 //!   to by others, as the erase of a restart's twin is.
+//! - **The entry of each id is kept without a word on whether it is live**, since the index tells that (`is_live`): 16 bytes
+//!   an id less than with one. Entries put together from piece, priority and result would take 140 less again, but then a
+//!   new entry of an id would have to be shown to be that of its piece before the commit has finished.
+//! - **What an insertion marks its crossed stretch in is the plan's** (`Sides`), so the insertions of one commit share two
+//!   rows of marks. A manager at rest keeps none.
 //! - **A refusal's text names its rule as a report does** (`RuleName`): one that says no more than that a priority is
 //!   taken leaves a user to look for the rule. The priority alone tells a route from a rule of an access list, since a
 //!   route of length 0 has low part 0, which is that of no number. It doesn't tell the version of IP, so that is asked

@@ -14,7 +14,7 @@ use crate::parts::CommitParts;
 use crate::planned_writes::{PlannedWrite, PlannedWrites};
 use crate::undoing::PlannedUndo;
 use commit_writes::Rewrite;
-use move_planner::{Insert, Moves};
+use move_planner::{Insert, Moves, Sides};
 use placement::Move;
 use slot_order::MOST_SLOTS;
 use slot_pool::Arrangement;
@@ -32,6 +32,8 @@ pub(crate) struct Plan {
     pub(crate) span: u32,
     /// The parts of the longest insertion, where each write is made by parts.
     pub(crate) most_parts: u32,
+    /// What the insertions of the commit mark the slots in, one after the other.
+    pub(crate) sides: Sides,
 }
 
 impl Plan {
@@ -53,6 +55,7 @@ impl Plan {
             most: 0,
             span: 0,
             most_parts: 0,
+            sides: Sides::new(alloc),
         }
     }
 

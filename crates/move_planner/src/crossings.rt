@@ -38,6 +38,7 @@ pub(crate) fn uncross(
     index: &Index,
     plan: &mut Moves,
     undo: &mut Moves,
+    sides: &mut Sides,
     id: u32,
     gap: Gap,
 ) -> Result<(), AllocError>
@@ -49,14 +50,14 @@ pub(crate) fn uncross(
     ensures made { OnErr result (AreMade slots.old slots.new plan.old plan.new) }
     ensures noted { AreNoted slots.old slots.new plan.old plan.new undo.old undo.new }
 {
-    let sides = find_sides(alloc, slots, index, id, gap)?;
-    let boundary = best_boundary(slots, &sides);
+    find_sides(slots, index, id, gap, sides)?;
+    let boundary = best_boundary(slots, sides);
     let mut cut = Cut {
         boundary,
         low: boundary,
         high: boundary,
     };
-    while let Some(next) = pass_one(alloc, slots, index, plan, undo, &sides, cut)? {
+    while let Some(next) = pass_one(alloc, slots, index, plan, undo, sides, cut)? {
         cut = next;
     }
     Ok(())

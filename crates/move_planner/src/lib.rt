@@ -157,6 +157,7 @@ use placement::{Aim, Move};
 use places::{Gap, find_gap};
 use placing::place;
 use rule_model::Rank;
+pub use sides::Sides;
 use slot_order::MOST_SLOTS;
 use slot_pool::Arrangement;
 use std::alloc::{AllocError, Global};
@@ -334,6 +335,7 @@ pub fn plan_insert(
     coming: &[Rank],
     plan: &mut Moves,
     undo: &mut Moves,
+    sides: &mut Sides,
 ) -> Result<Insert, AllocError>
     requires few { length slots.old ≤ MOST_SLOTS }
     requires coming { length coming.now ≤ MOST_SLOTS }
@@ -367,7 +369,7 @@ pub fn plan_insert(
     let before = plan.len();
     let gap = find_gap(slots, index, id);
     let span = gap.span();
-    let gap = clear_gap(alloc, slots, index, plan, undo, id, gap)?;
+    let gap = clear_gap(alloc, slots, index, plan, undo, sides, id, gap)?;
     place(alloc, slots, index, plan, undo, id, aim, coming, gap)?;
     let writes = (plan.len() - before) as u32;
     Ok(Insert { writes, span })
@@ -381,6 +383,7 @@ fn clear_gap(
     index: &Index,
     plan: &mut Moves,
     undo: &mut Moves,
+    sides: &mut Sides,
     id: u32,
     gap: Gap,
 ) -> Result<Gap, AllocError>
@@ -400,6 +403,6 @@ fn clear_gap(
     if gap.start <= gap.end {
         return Ok(gap);
     }
-    uncross(alloc, slots, index, plan, undo, id, gap)?;
+    uncross(alloc, slots, index, plan, undo, sides, id, gap)?;
     Ok(find_gap(slots, index, id))
 }

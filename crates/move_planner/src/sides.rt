@@ -1,5 +1,5 @@
 //! Which entries must stand behind a new id, and which before it.
-ghost use Rattle.std.specs.Prelude.{◌≡◌, ℕ, ◌+◌, ◌<◌, ◌≤◌, ◌∷◌, [], IsTrue, Some, IfOk, length};
+ghost use Rattle.std.specs.Prelude.{◌≡◌, ℕ, ◌+◌, ◌<◌, ◌≤◌, ◌∷◌, [], IsTrue, Some, OnOk, length};
 ghost use Rattle.slot_order.specs.Order.{slot};
 ghost use Rattle.placement.specs.Live.{is_live, is_above};
 ghost use Rattle.placement.specs.Placement.{gap_start, gap_end};
@@ -12,95 +12,102 @@ use slot_pool::{Arrangement, Marks};
 use std::alloc::{AllocError, Global};
 
 /// Of the slots from `start` on and before `end`: which hold an entry that must stand behind a new
-/// id, and which one that must stand before it.
+/// id, and which one that must stand before it. The rows of marks keep their memory from one insertion to the next.
 #[derive(Debug, Drop)]
-pub(crate) struct Sides {
+pub struct Sides {
     pub(crate) start: u32,
     pub(crate) end: u32,
     pub(crate) behind: Marks,
     pub(crate) before: Marks,
 }
 
+impl Sides {
+    /// The sides of no slots, which take their memory from `alloc` as insertions need it.
+    pub fn new(alloc: Global) -> Sides {
+        Sides {
+            start: 0,
+            end: 0,
+            behind: Marks::new(alloc),
+            before: Marks::new(alloc),
+        }
+    }
+}
+
 /// The sides of the slots between the first lower and the last upper entry of an id, these two
 /// among them.
 pub(crate) fn find_sides(
-    alloc: Global,
     slots: &Arrangement,
     index: &Index,
     id: u32,
     gap: Gap,
-) -> Result<Sides, AllocError>
+    sides: &mut Sides,
+) -> Result<(), AllocError>
     requires ready { IsReady index.now id slots.now }
     requires start { gap.start ≡ gap_start (is_above index.now.live) slots.now id }
     requires end { gap.end ≡ gap_end (is_above index.now.live) slots.now id }
     requires crossed { gap_end (is_above index.now.live) slots.now id < gap_start (is_above index.now.live) slots.now id }
-    ensures { IfOk result (AreFoundSides (is_above index.now.live) slots.now id) }
+    ensures { OnOk result (AreFoundSides (is_above index.now.live) slots.now id sides.new) }
 {
-    let start = gap.end;
-    let end = gap.start;
-    let behind = mark_behind(alloc, slots, index, id, start, end)?;
-    let before = mark_before(alloc, slots, index, id, start, end)?;
-    Ok(Sides {
-        start,
-        end,
-        behind,
-        before,
-    })
+    sides.start = gap.end;
+    sides.end = gap.start;
+    mark_behind(slots, index, id, gap.end, gap.start, &mut sides.behind)?;
+    mark_before(slots, index, id, gap.end, gap.start, &mut sides.before)?;
+    Ok(())
 }
 
 /// The slots from `start` on and before `end` whose entry must stand behind an id. What is below the id
 /// is marked, and then, by rising slots, what is below a marked entry: that stands behind it.
 fn mark_behind(
-    alloc: Global,
     slots: &Arrangement,
     index: &Index,
     id: u32,
     start: u32,
     end: u32,
-) -> Result<Marks, AllocError>
+    marks: &mut Marks,
+) -> Result<(), AllocError>
     requires ready { IsReady index.now id slots.now }
     requires from { start ≡ gap_end (is_above index.now.live) slots.now id }
     requires order { start ≤ end }
     requires inside { end ≤ length slots.now }
-    ensures { IfOk result (AreLedTo (is_above index.now.live) slots.now id start end) }
+    ensures { OnOk result (AreLedTo (is_above index.now.live) slots.now id start end marks.new) }
 {
-    let mut marks = Marks::new(alloc, end - start)?;
-    mark_below(slots, index, id, start, &mut marks);
+    marks.restart(end - start)?;
+    mark_below(slots, index, id, start, marks);
     let mut from = start;
-    while let Some(slot) = first_marked(&marks, start, from, end) {
+    while let Some(slot) = first_marked(marks, start, from, end) {
         if let Some(held) = slots.at(slot) {
-            mark_below(slots, index, held, start, &mut marks);
+            mark_below(slots, index, held, start, marks);
         }
         from = slot + 1;
     }
-    Ok(marks)
+    Ok(())
 }
 
 /// The slots from `start` on and before `end` whose entry must stand before an id: the mirror.
 fn mark_before(
-    alloc: Global,
     slots: &Arrangement,
     index: &Index,
     id: u32,
     start: u32,
     end: u32,
-) -> Result<Marks, AllocError>
+    marks: &mut Marks,
+) -> Result<(), AllocError>
     requires ready { IsReady index.now id slots.now }
     requires to { end ≡ gap_start (is_above index.now.live) slots.now id }
     requires order { start ≤ end }
     requires inside { end ≤ length slots.now }
-    ensures { IfOk result (LeadFrom (is_above index.now.live) slots.now id start end) }
+    ensures { OnOk result (LeadFrom (is_above index.now.live) slots.now id start end marks.new) }
 {
-    let mut marks = Marks::new(alloc, end - start)?;
-    mark_above(slots, index, id, start, &mut marks);
+    marks.restart(end - start)?;
+    mark_above(slots, index, id, start, marks);
     let mut to = end;
-    while let Some(slot) = last_marked(&marks, start, to) {
+    while let Some(slot) = last_marked(marks, start, to) {
         if let Some(held) = slots.at(slot) {
-            mark_above(slots, index, held, start, &mut marks);
+            mark_above(slots, index, held, start, marks);
         }
         to = slot;
     }
-    Ok(marks)
+    Ok(())
 }
 
 /// Marks the slots of what is below an id.

@@ -1,7 +1,9 @@
 mod Examples
+mod InBuckets
 mod Linked
-mod Passed
 mod Parts
+mod Passed
+mod Paths
 mod Placed
 mod Places
 mod Rows

@@ -5,35 +5,40 @@ use Rattle.order_chains.specs.Pairs.{Pairs, without}
 use Rattle.overlap_index.specs.declared.scan.Side.TheVariants.{Above, Below}
 use Rattle.placement.specs.declared.LivePiece.{LivePiece}
 use Rattle.placement.specs.Live.{is_live, without_id}
+use Rattle.overlap_index.specs.Buckets.{Links, AreBuckets, no_links, bucket_of, with_first, without_link}
 use Rattle.overlap_index.specs.Near.{SpanColumns, columns_of, with_row, without_row}
 use Rattle.overlap_index.specs.Linked.{AreParts, ArePlaced, HaveMore}
 use Rattle.overlap_index.specs.Sides.{AreOn}
+use Rattle.placement.proofs.Above.{is_live_from}
 use Rattle.placement.proofs.Live.{apart_none, apart_more, apart_filter}
+use Rattle.overlap_index.proofs.InBuckets.{buckets_none, buckets_more, buckets_less}
 use Rattle.overlap_index.proofs.Rows.{row_more, row_less}
 use Rattle.overlap_index.proofs.Placed.{Closes, placed_none, placed_more, placed_less, stands_at}
 use Rattle.overlap_index.proofs.Linked.{linked_none, linked_roomy, linked_more, linked_without, have_as}
 
 -- nothing is live
-pub parts_none : (slots : ℕ) (places : List ℕ) (columns : SpanColumns) (edges : Pairs) → slots ≤ 65536 → length places ≡ slots → columns ≡ columns_of [] → edges.ids ≡ slots
-    → edges.places ≡ [] → AreParts slots [] [] places columns edges
-parts_none slots places columns edges most many beside nodes none =
-    record { most = most; apart = apart_none slots; table = placed_none slots places many; beside = beside; nodes = nodes; links = linked_none edges none }
+pub parts_none : (slots : ℕ) (places : List ℕ) (columns : SpanColumns) (edges : Pairs) → 1 ≤ slots → slots ≤ 65536 → length places ≡ slots → columns ≡ columns_of [] → edges.ids ≡ slots
+    → edges.places ≡ [] → AreParts slots [] [] places (no_links slots) columns edges
+parts_none slots places columns edges some most many beside nodes none =
+    record { most = most; apart = apart_none slots; table = placed_none slots places many; found = buckets_none slots some; beside = beside; nodes = nodes; links = linked_none edges none }
 
 -- room for more links changes nothing
-pub parts_roomy : (slots : ℕ) (live pieces : List LivePiece) (places : List ℕ) (columns : SpanColumns) (old new : Pairs)
-    → ((more : ℕ) × (new.places ≡ old.places ++ replicate more None)) → new.ids ≡ old.ids → AreParts slots live pieces places columns old → AreParts slots live pieces places columns new
-parts_roomy slots live pieces places columns old new room same parts =
-    record { most = parts.most; apart = parts.apart; table = parts.table; beside = parts.beside; nodes = same ∙ parts.nodes; links = linked_roomy old new live room.0 room.1 parts.links }
+pub parts_roomy : (slots : ℕ) (live pieces : List LivePiece) (places : List ℕ) (buckets : Links) (columns : SpanColumns) (old new : Pairs)
+    → ((more : ℕ) × (new.places ≡ old.places ++ replicate more None)) → new.ids ≡ old.ids → AreParts slots live pieces places buckets columns old → AreParts slots live pieces places buckets columns new
+parts_roomy slots live pieces places buckets columns old new room same parts =
+    record { most = parts.most; apart = parts.apart; table = parts.table; found = parts.found; beside = parts.beside; nodes = same ∙ parts.nodes; links = linked_roomy old new live room.0 room.1 parts.links }
 
 -- a new id is live, and linked to all that it overlaps
-pub parts_more : (slots : ℕ) (live pieces : List LivePiece) (places : List ℕ) (columns : SpanColumns) (old mid new : Pairs) (one : LivePiece) (above below : List ℕ) → one.id < slots
+pub parts_more : (slots : ℕ) (live pieces : List LivePiece) (places : List ℕ) (buckets : Links) (columns : SpanColumns) (old mid new : Pairs) (one : LivePiece) (above below : List ℕ) → one.id < slots
     → is_live live one.id ≡ false → AreOn Above one live above → AreOn Below one live below → HaveMore old mid (λ upper lower. Contains above upper × (lower ≡ one.id))
-    → HaveMore mid new (λ upper lower. (upper ≡ one.id) × Contains below lower) → new.ids ≡ old.ids → AreParts slots live pieces places columns old
-    → AreParts slots (live ++ one ∷ []) (pieces ++ one ∷ []) (set places one.id (length pieces)) (with_row columns one.piece) new
-parts_more slots live pieces places columns old mid new one above below small absent on_above on_below aboves belows same parts = record {
+    → HaveMore mid new (λ upper lower. (upper ≡ one.id) × Contains below lower) → new.ids ≡ old.ids → AreParts slots live pieces places buckets columns old
+    → AreParts slots (live ++ one ∷ []) (pieces ++ one ∷ []) (set places one.id (length pieces)) (with_first buckets (bucket_of buckets.slots one.piece one.rank) one.id) (with_row columns one.piece) new
+parts_more slots live pieces places buckets columns old mid new one above below small absent on_above on_below aboves belows same parts = record {
   most = parts.most;
   apart = apart_more slots one live small absent parts.apart;
   table = placed_more slots one live pieces places small absent parts.table;
+  found = subst (λ n. AreBuckets slots (live ++ one ∷ []) (with_first buckets (bucket_of n one.piece one.rank) one.id)) (sym parts.found.size)
+      (buckets_more slots one live buckets parts.most small absent parts.apart parts.found);
   beside = ap (λ c. with_row c one.piece) parts.beside ∙ row_more pieces one;
   nodes = same ∙ parts.nodes;
   links = linked_more one live old mid new parts.links
@@ -42,16 +47,21 @@ parts_more slots live pieces places columns old mid new one above below small ab
 }
 
 -- an id is live no longer, the last piece takes the place of its own, and its links are gone
-pub parts_less : (slots id : ℕ) (live pieces new : List LivePiece) (places : List ℕ) (columns : SpanColumns) (before after : Pairs) (place : ℕ) (last d : LivePiece) → is_live live id ≡ true
-    → place ≡ get_or places id 0 → get_or pieces (length pieces - 1) last ≡ last → new ≡ swap_remove pieces place d → Closes pieces new place → after.places ≡ map (without id) before.places
-    → after.ids ≡ before.ids → AreParts slots live pieces places columns before → AreParts slots (without_id live id) new (set places last.id place) (without_row columns place) after
-parts_less slots id live pieces new places columns before after place last d is at end swapped closes gone same parts =
+pub parts_less : (slots id : ℕ) (one : LivePiece) (live pieces new : List LivePiece) (places : List ℕ) (buckets : Links) (columns : SpanColumns) (before after : Pairs) (place : ℕ) (last d : LivePiece)
+    → Contains live one → one.id ≡ id → place ≡ get_or places id 0 → get_or pieces (length pieces - 1) last ≡ last → new ≡ swap_remove pieces place d → Closes pieces new place
+    → after.places ≡ map (without id) before.places → after.ids ≡ before.ids → AreParts slots live pieces places buckets columns before
+    → AreParts slots (without_id live id) new (set places last.id place) (without_link buckets (bucket_of buckets.slots one.piece one.rank) id) (without_row columns place) after
+parts_less slots id one live pieces new places buckets columns before after place last d has named at end swapped closes gone same parts =
+    let is : is_live live id ≡ true = subst (λ k. is_live live k ≡ true) named (is_live_from live one has) in
     let here = stands_at slots id live pieces places parts.table is in
     record {
       most = parts.most;
       apart = apart_filter slots _ live parts.apart;
       table = subst (λ n. ArePlaced slots (without_id live id) new (set places last.id n)) (sym at)
           (placed_less slots id live pieces new places last parts.apart parts.table is end (subst (Closes pieces new) at closes));
+      found = subst (λ k. AreBuckets slots (without_id live k) (without_link buckets (bucket_of buckets.slots one.piece one.rank) k)) named
+          (subst (λ n. AreBuckets slots (without_id live one.id) (without_link buckets (bucket_of n one.piece one.rank) one.id)) (sym parts.found.size)
+          (buckets_less slots one live buckets parts.apart has parts.found));
       beside = ap (λ c. without_row c place) parts.beside ∙ row_less pieces place d (subst (λ n. n < length pieces) (sym at) here.inside) ∙ ap columns_of (sym swapped);
       nodes = same ∙ parts.nodes;
       links = linked_without before after live id gone parts.links;

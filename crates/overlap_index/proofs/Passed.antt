@@ -1,6 +1,6 @@
--- Live pieces that a search passes over by the columns beside them, for those on one side or for an equal one.
+-- Live pieces that a search passes over by the columns beside them, and pieces that are found equal.
 use Rattle.std.proofs.Common.{◌≡◌, ℕ, zero, suc, Bool, true, false, ◌+◌, ◌-◌, ◌<◌, ◌≤◌, Option, Some, None, List, [], ◌∷◌, ◌++◌, length, map, drop, get_or, arith, inl, inr, refl, sym, ◌∙◌, ap, ap₂, subst, le-leb, eq-eqb, eqb-true, append_assoc}
-use Rattle.std.specs.Prelude.{Contains, ◌==◌, ◌&&◌, not, nat_eq, nat_le, nat_lt}
+use Rattle.std.specs.Prelude.{◌==◌, ◌&&◌, not, nat_eq, nat_le, nat_lt}
 use Rattle.std.specs.Option.{option_eq}
 use Rattle.std.proofs.lemmas.Bool.{both_ways, cases_Bool, cases_lt, cond-true, cond-false, and_parts, and_from, or_left, or_right, not-true, lt-ltb, false_from_ne_true}
 use Rattle.std.proofs.lemmas.List.{drop_more, get_or-map, get_or_default}
@@ -13,7 +13,7 @@ use Rattle.placement.specs.declared.LivePiece.{LivePiece}
 use Rattle.placement.specs.Live.{is_over}
 use Rattle.overlap_index.specs.Sides.{is_on, ids_on}
 use Rattle.block_windows.specs.Windows.{first_of, last_of}
-use Rattle.block_windows.proofs.Blocks.{meet_near, first_below_last}
+use Rattle.block_windows.proofs.Blocks.{meet_near}
 use Rattle.overlap_index.specs.Near.{SpanColumns, columns_of, spans_of, is_near}
 use Rattle.overlap_index.specs.declared.near.Spans.{Spans}
 
@@ -121,49 +121,6 @@ found_still side of live columns spans at next so_far all are is after room far 
     let skipped : ids_on side of (drop at live) ≡ ids_on side of (drop (at + (next - at)) live) =
     skip_far side of live at (next - at) (omega arith) (λ k a b. ap₂ (λ c s. is_near c s k) (sym are) (sym is) ∙ far k a (omega arith)) in
     ap (λ xs. so_far ++ xs) (sym (skipped ∙ ap (λ k. ids_on side of (drop k live)) same)) ∙ before
-
--- none of the live pieces before a place has this piece and this priority
-abbrev pub HasNone : List LivePiece → Piece → ℕ → ℕ → Type 0
-HasNone live piece priority place =
-    (k : ℕ) (other : LivePiece) → k < place → k < length live → get_or live k other ≡ other → other.piece ≡ piece → other.rank ≡ priority → ⊥
-
--- a piece that was found is one of the list
-pub found_here : (piece : Piece) (priority : ℕ) (live : List LivePiece) (place : ℕ) (one : LivePiece) → place < length live → get_or live place one ≡ one → one.piece ≡ piece → one.rank ≡ priority
-    → Contains live (record { id = one.id; piece = piece; rank = priority })
-found_here piece priority live place one inside at same rank =
-    let is : one ≡ record { id = one.id; piece = piece; rank = priority } = ap₂ (λ p r. record { id = one.id; piece = p; rank = r }) same rank in
-    subst (Contains live) is (place, inside, at)
-
--- a place that isn't near hasn't the piece
-not_far : (piece : Piece) (live : List LivePiece) (k : ℕ) (other : LivePiece) → piece.dport.lo ≤ piece.dport.hi → k < length live → get_or live k other ≡ other → other.piece ≡ piece
-    → is_near (columns_of live) (spans_of piece) k ≡ true
-not_far piece live k other ordered inside at same =
-    let dst = first_below_last 0 other.piece.dst in
-    let next = first_below_last 32 other.piece.dst in
-    let low = first_below_last 96 other.piece.dst in
-    let src = first_below_last 0 other.piece.src in
-    let ports = subst (λ (p : Piece). p.dport.lo ≤ p.dport.hi) (sym same) ordered in
-    subst (λ p. is_near (columns_of live) (spans_of p) k ≡ true) same
-    (near_at live k (spans_of other.piece) other inside at (record { dst_starts = dst; dst_ends = dst; next_starts = next; next_ends = next; low_starts = low; low_ends = low; src_starts = src; src_ends = src; ports_start = ports; ports_end = ports }))
-
--- places that aren't near haven't the piece
-pub none_far : (piece : Piece) (priority : ℕ) (live : List LivePiece) (columns : SpanColumns) (spans : Spans) (at next : ℕ) → columns ≡ columns_of live → spans ≡ spans_of piece
-    → spans.ports.first ≤ spans.ports.last → HasNone live piece priority at → ((k : ℕ) → at ≤ k → k < next → is_near columns spans k ≡ false) → HasNone live piece priority next
-none_far piece priority live columns spans at next are is ordered before far k other within inside there same rank = elim (cases_lt k at) [
-  | inl early ↦ before k other early inside there same rank
-  | inr late ↦ both_ways _ (far k late within) (ap₂ (λ c s. is_near c s k) are is ∙ not_far piece live k other (subst (λ (s : Spans). s.ports.first ≤ s.ports.last) is ordered) inside there same)
-]
-
--- nor has one that was looked at
-pub none_here : (piece : Piece) (priority : ℕ) (live : List LivePiece) (place : ℕ) (one : LivePiece) → get_or live place one ≡ one → HasNone live piece priority place
-    → (one.rank ≡ priority → one.piece ≡ piece → ⊥) → HasNone live piece priority (place + 1)
-none_here piece priority live place one here before differs k other within inside there same rank = elim (cases_lt k place) [
-  | inl early ↦ before k other early inside there same rank
-  | inr late ↦
-      let is : k ≡ place = omega arith in
-      let equal : other ≡ one = sym there ∙ ap (λ n. get_or live n other) is ∙ get_or_default live place other one (subst (λ n. n < length live) is inside) ∙ here in
-      differs (sym (ap (λ (x : LivePiece). x.rank) equal) ∙ rank) (sym (ap (λ (x : LivePiece). x.piece) equal) ∙ same)
-]
 
 -- pieces whose conditions and bits are equal, by the tests that compare them
 abbrev equal_pieces : Piece → Piece → Bool

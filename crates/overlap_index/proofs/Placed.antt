@@ -1,5 +1,5 @@
 -- Live pieces in any order, and the place of each at its id.
-use Rattle.std.proofs.Common.{◌≡◌, ◌≢◌, ℕ, ◌+◌, ◌-◌, ◌<◌, ◌≤◌, true, false, List, [], ◌∷◌, ◌++◌, length, map, filter, set, get_or, None, Contains, inl, inr, ◌⊎◌, sym, ◌∙◌, ap, subst, arith, eq-eqb, get_or-set_same, get_or-set_other}
+use Rattle.std.proofs.Common.{◌≡◌, ◌≢◌, ℕ, ◌+◌, ◌-◌, ◌<◌, ◌≤◌, true, false, List, [], ◌∷◌, ◌++◌, length, map, filter, set, get_or, None, Contains, inl, inr, ◌⊎◌, sym, ◌∙◌, ap, ap₂, subst, arith, eq-eqb, get_or-set_same, get_or-set_other}
 use Rattle.std.specs.Prelude.{◌==◌, nat_eq, not}
 use Rattle.std.proofs.lemmas.Bool.{both_ways, cases_lt, cases_eq, eqb-true, ne_eqb, not-true, false_from_ne_true}
 use Rattle.std.proofs.lemmas.List.{length-map, length-set, length_push, get_or_default, get_or-map, get_or_append_left, get_or_push}
@@ -8,6 +8,7 @@ use Rattle.std.proofs.lemmas.Map.Keys.{IsDistinct-from_apart}
 use Rattle.slot_order.proofs.Lists.{AllByRecursion-member, in_map, map_in, in_filter, filter_in}
 use Rattle.rule_model.specs.AddressBlock.{any_address}
 use Rattle.rule_model.specs.PortRange.{any_port}
+use Rattle.rule_model.specs.declared.Piece.{Piece}
 use Rattle.overlap_index.specs.declared.scan.Side.{Side}
 use Rattle.placement.specs.declared.LivePiece.{LivePiece}
 use Rattle.placement.specs.Live.{AreApart, is_live, without_id}
@@ -236,3 +237,33 @@ on_more side of some all more id c =
     let f = in_filter (λ other. is_on side other of) some m.0 m.1 in
     subst (Contains (ids_on side of all)) m.2 (map_in (λ (one : LivePiece). one.id) (filter (λ other. is_on side other of) all) m.0
     (filter_in (λ other. is_on side other of) all m.0 (more m.0 f.0) f.1))
+
+-- a live piece, by what it has
+pub is_just : (one : LivePiece) (id : ℕ) (piece : Piece) (rank : ℕ) → one.id ≡ id → one.piece ≡ piece → one.rank ≡ rank → one ≡ record { id = id; piece = piece; rank = rank }
+is_just one id piece rank named same ranked =
+    ap (λ n. record { id = n; piece = one.piece; rank = one.rank }) named
+    ∙ ap₂ (λ p r. record { id = id; piece = p; rank = r }) same ranked
+
+-- what stands at a place is live, and an id that isn't there isn't live
+pub live_at : (slots : ℕ) (live pieces : List LivePiece) (places : List ℕ) (place : ℕ) (one : LivePiece) → ArePlaced slots live pieces places → place < length pieces → get_or pieces place one ≡ one
+    → is_live live one.id ≡ true
+live_at slots live pieces places place one table inside at = is_live_from live one ((table.same one).0 (place, inside, at))
+
+pub dead_at : (slots id : ℕ) (live pieces : List LivePiece) (places : List ℕ) (one : LivePiece) → ArePlaced slots live pieces places → get_or pieces (get_or places id 0) one ≡ one → one.id ≢ id
+    → is_live live id ≡ false
+dead_at slots id live pieces places one table at other = false_from_ne_true (is_live live id) (λ is.
+    let s = stands_at slots id live pieces places table is in
+    let same : s.one ≡ one = sym s.here ∙ get_or_default pieces (get_or places id 0) s.one one s.inside ∙ at in
+    other (sym (ap (λ (x : LivePiece). x.id) same) ∙ s.named))
+
+pub dead_past : (slots id : ℕ) (live pieces : List LivePiece) (places : List ℕ) → ArePlaced slots live pieces places → length pieces ≤ get_or places id 0 → is_live live id ≡ false
+dead_past slots id live pieces places table past = false_from_ne_true (is_live live id) (λ is.
+    let s = stands_at slots id live pieces places table is in
+    let inside = s.inside in
+    omega arith)
+
+pub dead_far : (slots id : ℕ) (live : List LivePiece) → AreApart slots live → slots ≤ id → is_live live id ≡ false
+dead_far slots id live apart far = false_from_ne_true (is_live live id) (λ is.
+    let w = live_is live id is in
+    let small : id < slots = subst (λ n. n < slots) w.2 (AllByRecursion-member (λ (x : LivePiece). x.id < slots) live w.0 apart.small w.1) in
+    omega arith)

@@ -3,6 +3,7 @@ use Rattle.std.specs.Prelude.{◌≡◌, ℕ, ◌<◌, ◌≤◌, ◌↔◌, ◌
 use Rattle.order_chains.specs.Pairs.{Pairs, HasPair}
 use Rattle.placement.specs.declared.LivePiece.{LivePiece}
 use Rattle.placement.specs.Live.{AreApart, is_above}
+use Rattle.overlap_index.specs.Buckets.{Links, AreBuckets}
 use Rattle.overlap_index.specs.Near.{SpanColumns, columns_of}
 
 -- of two live ids one is linked as the upper one of the other exactly where it is above it
@@ -15,12 +16,13 @@ pub record ArePlaced (slots : ℕ) (live pieces : List LivePiece) (places : List
   pub many : length places ≡ slots
   pub placed : (k : ℕ) (one : LivePiece) → k < length pieces → slice_index_or pieces k one ≡ one → slice_index places one.id ≡ k
 
--- the parts of an index: what is live in the order of its coming, the same in any order, the columns beside that, the
--- place of each id, and the links
-pub record AreParts (slots : ℕ) (live pieces : List LivePiece) (places : List ℕ) (columns : SpanColumns) (edges : Pairs) : Type 0 where
+-- the parts of an index: what is live in the order of its coming, the same in any order, the place of each id, the ids in
+-- buckets, the columns beside the pieces, and the links
+pub record AreParts (slots : ℕ) (live pieces : List LivePiece) (places : List ℕ) (buckets : Links) (columns : SpanColumns) (edges : Pairs) : Type 0 where
   pub most : slots ≤ 65536
   pub apart : AreApart slots live
   pub table : ArePlaced slots live pieces places
+  pub found : AreBuckets slots live buckets
   pub beside : columns ≡ columns_of pieces
   pub nodes : edges.ids ≡ slots
   pub links : AreLinked edges live

@@ -23,13 +23,18 @@
 //! Live pieces, and the columns beside them, stand in no order that matters: where one goes the last takes its place.
 //! In which order they came is known to contracts alone, by a history that takes no memory.
 //!
+//! An id is found by its piece and its priority in a bucket: these are mixed to a number, and the ids whose numbers lead to
+//! one bucket follow one another (`buckets`). That the number is a function of piece and priority is all that is proved of
+//! it, and all that finding needs.
+//!
 //! # What it cost
-//! A question costs time by the number of ids that it names, and not by the number of live pieces, and `is_above` and
-//! `rank_of` take the same time whatever is live. `add` and `id_of` pass over the live pieces once, eight in a step;
-//! `remove` takes as many steps as there are links that go, and moves one piece. Least and greatest numbers, and not
+//! A question costs time by the number of ids that it names, and not by the number of live pieces, and `is_above`,
+//! `is_live` and `rank_of` take the same time whatever is live. `add` passes over the live pieces once, eight in a step;
+//! `id_of` looks at the ids of one bucket, and there are as many buckets as ids; `remove` takes as many steps as there are
+//! links that go, and at most one for each id of a bucket, and moves one piece. Least and greatest numbers, and not
 //! number and mask, are in the columns, since the order of numbers is all that the proof needs then.
 //!
-//! Only `new` and `add` take memory: 52 bytes an id beside the piece, which stands once, and 24 bytes a pair of ids
+//! Only `new` and `add` take memory: 60 bytes an id beside the piece, which stands once, and 24 bytes a pair of ids
 //! that overlap, whose room doubles where it grows. The worst list, each piece over each other, has n (n - 1) / 2
 //! pairs: 12 bytes times n squared, 201 MB at 4,096 ids and 51 GB at 65,536, in a block with room for up to twice as
 //! many.
@@ -37,10 +42,16 @@
 //! # What isn't promised
 //! Any order of the ids that are named. Lists in which many rules have both blocks and their ports in common, `any`
 //! say, gain nothing from the columns, nor do IPv6 blocks that differ in their third 32 bits alone. Room for links
-//! isn't given back before the whole index is.
+//! isn't given back before the whole index is. Nor that a bucket has few ids: how a piece is mixed is no secret, so whoever
+//! chooses the rules can choose such that all lead to one bucket. Then `id_of` and `remove` look at each live id.
 //!
 //! # Decided
-//! - **The id of a piece is found by the pass that finds its overlaps** (`id_of`), so no further table has to be kept.
+//! - **The id of a piece is found by buckets that are linked by numbers** (`id_of`), and not by the pass that finds its
+//!   overlaps, as it once was: a commit asks for each entry that it rewrites or erases, and paid for the whole table each
+//!   time. The price is 8 bytes an id. A map of the kit would ask for memory as ids come, take some 20 bytes an id and
+//!   more, and keep one id a piece and priority, where `add` forbids no second one.
+//! - **What is mixed are the priority and the ports**: two rules differ in their priorities, also routes, whose priority has
+//!   their prefix, and two pieces of one rule in their ports. Where neither differs the pieces are compared.
 //! - **Each window is a test of its own**, so no two have to be compared in order. The second and the third of the
 //!   destination cost 16 bytes an id together.
 //! - **What is found is kept as pairs**, so the planner, which asks for the overlaps of every entry that moves, pays
@@ -55,13 +66,14 @@ ghost use Rattle.placement.specs.Live.{AreApart, is_live, is_above, without_id, 
 ghost use Rattle.overlap_index.specs.Sides.{AreOn};
 ghost use Rattle.overlap_index.specs.declared.scan.Side.TheVariants as side;
 
+mod buckets;
 mod columns;
-mod exact;
 mod links;
 mod near;
 mod overlaps;
 mod scan;
 
+use buckets::{Bucket, Buckets};
 use call_history::History;
 use columns::Columns;
 use links::{link_above, link_below};
@@ -96,6 +108,8 @@ pub struct Index {
     columns: Columns,
     // The place of each live id among them; what stands at another id is of no account.
     places: Vec<u32>,
+    // The live ids, by their pieces and their priorities.
+    buckets: Buckets,
     // Which of them overlap.
     edges: Edges,
     // Which ids came and went, by which contracts know the order in which those that are live came.
@@ -112,7 +126,7 @@ impl Model for Index {
 
     ghost view = { λ i. record { slots = i.slots; live = live_after i.history.items } };
 
-    ghost invariant = { λ i. AreParts i.slots (live_after i.history.items) i.pieces.items i.places.items i.columns i.edges };
+    ghost invariant = { λ i. AreParts i.slots (live_after i.history.items) i.pieces.items i.places.items i.buckets i.columns i.edges };
 }
 
 impl Index {
@@ -126,12 +140,14 @@ impl Index {
         let pieces = Vec::with_capacity(alloc, slots as usize)?;
         let columns = Columns::new(alloc, slots as usize)?;
         let places = Vec::from_elem(alloc, 0, slots as usize)?;
+        let buckets = Buckets::new(alloc, slots)?;
         let edges = Edges::new(alloc, slots)?;
         Ok(Index {
             slots,
             pieces,
             columns,
             places,
+            buckets,
             edges,
             history: History::new(),
             alloc,
@@ -161,6 +177,7 @@ impl Index {
         self.pieces.push_reserved(one);
         link_above(&mut self.edges, &found.above, id);
         link_below(&mut self.edges, id, &found.below);
+        self.buckets.came(id, piece, priority);
         self.history = self.history.and(&Change::Came(one));
         Ok(())
     }
@@ -171,6 +188,8 @@ impl Index {
         ensures live { self.new.live ≡ without_id self.old.live id }
         ensures slots { self.new.slots ≡ self.old.slots }
     {
+        let one = *self.piece_of(id);
+        self.buckets.went(id, &one.piece, one.rank);
         let place = self.places[id as usize] as usize;
         let last = self.pieces[self.pieces.len() - 1].id;
         self.places[last as usize] = place as u32;
@@ -228,7 +247,44 @@ impl Index {
         ensures found { IfSome result (λ id. Contains self.now.live (record { id = id; piece = piece.now; rank = priority })) }
         ensures none { IsNone result → (one : LivePiece) → Contains self.now.live one → one.piece ≡ piece.now → one.rank ≡ priority → ⊥ }
     {
-        exact::id_of(&self.pieces, &self.columns, piece, priority)
+        for id in self.candidates(piece, priority) {
+            if self.stands_for(id, piece, priority) {
+                return Some(id);
+            }
+        }
+        None
+    }
+
+    /// The live ids in the bucket of a piece and a priority.
+    fn candidates(&self, piece: &Piece, priority: Rank) -> Bucket<'_>
+        ensures live { (id : ℕ) → Contains result id → IsTrue (is_live self.now.live id) }
+        ensures all { (one : LivePiece) → Contains self.now.live one → one.piece ≡ piece.now → one.rank ≡ priority → Contains result one.id }
+    {
+        self.buckets.ids(piece, priority)
+    }
+
+    /// Whether a live id has this piece and this priority. The priorities are looked at first, which few share.
+    fn stands_for(&self, id: u32, piece: &Piece, priority: Rank) -> bool
+        requires { IsTrue (is_live self.now.live id) }
+        ensures { IsTrue result ↔ Contains self.now.live (record { id = id; piece = piece.now; rank = priority }) }
+    {
+        let one = self.piece_of(id);
+        one.rank == priority && one.piece == *piece
+    }
+
+    /// Whether an id is live.
+    pub fn is_live(&self, id: u32) -> bool
+        ensures { result ≡ is_live self.now.live id }
+    {
+        if id >= self.slots {
+            return false;
+        }
+        let place = self.places[id as usize] as usize;
+        let standing = self.pieces.len();
+        if place >= standing {
+            return false;
+        }
+        self.pieces[place].id == id
     }
 
     /// A live id, with its piece and its priority.

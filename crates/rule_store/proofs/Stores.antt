@@ -1,73 +1,120 @@
--- What an insertion, a change and a removal make of a store, over its slab and its keys.
-use Rattle.std.proofs.Common.{◌≡◌, ℕ, ◌+◌, ◌-◌, ◌<◌, Bool, true, false, List, [], ◌∷◌, length, map, get_or, set, Option, Some, None, IsSome, IsTrue, IsFalse, is_some, cond, inl, inr, refl, sym, ap, ap₂, ◌∙◌, arith}
+-- What an insertion, a change and a removal make of a store, over its table and its keys.
+use Rattle.std.proofs.Common.{◌≡◌, ◌≢◌, ℕ, ◌+◌, ◌<◌, ◌≤◌, Bool, true, false, List, [], ◌∷◌, ◌++◌, length, map, get_or, set, IsTrue, IsFalse, All, inl, inr, refl, sym, ap, ap₂, ◌∙◌, arith, length-append}
 use Rattle.std.specs.Prelude.{nat_eq, if◌then◌else◌}
 use Rattle.std.specs.List.{insert, remove}
-use Rattle.std.proofs.lemmas.List.{length-map}
-use Rattle.std.proofs.lemmas.List.Sums.{sum_by-set}
-use Rattle.std.proofs.lemmas.List.Elements.{All-from_get_or}
-use Rattle.std.proofs.lemmas.Bool.{cases_eq}
-use Rattle.std.proofs.lemmas.List.Edits.{length-insert, length-remove}
-use Rattle.slab.specs.Slab.{Slab, get, slab_len, Updates, ContainsKey, with_value}
-use Rattle.slab.proofs.SlabLemmas.{Updates-with_value, ContainsKey-within}
+use Rattle.std.proofs.lemmas.Bool.{cases_lt}
+use Rattle.std.proofs.lemmas.List.{get_or-map, length-set, get_or_push, get_or_append_left}
+use Rattle.std.proofs.lemmas.List.Elements.{All-from_get_or, All-push, All-weaker}
+use Rattle.std.proofs.lemmas.List.Edits.{length-insert, length-remove, get_or-remove_below, get_or-remove_above}
 use Rattle.slot_order.proofs.Lists.{map-remove}
+use Rattle.counted_blocks.specs.declared.Item.{Item}
 use Rattle.rule_model.specs.declared.Rule.{Rule}
 use Rattle.rule_model.specs.RuleSet.{has_priority}
 use Rattle.rule_store.specs.declared.Mode.TheVariants.{Cover}
 use Rattle.rule_store.specs.Verdict.{entries_needed}
 use Rattle.rule_store.specs.Batch.{with_rule}
-use Rattle.rule_store.specs.Store.{IsStored, IsSized, IsPlace, no_rule, rule_under, rules_under, with_answer, without_rule}
+use Rattle.rule_store.specs.Store.{AreOnce, IsStored, IsSized, IsPlace, PutsRule, no_rule, rule_under, rules_under, with_answer, without_rule}
 use Rattle.rule_store.proofs.Sets.{IsAt, IsAt-present, with_rule-at, with_answer-at, without_rule-at}
 use Rattle.rule_store.proofs.Falling.{IsRuleSet-with_rule, IsRuleSet-with_answer, IsRuleSet-without_rule}
-use Rattle.rule_store.proofs.Slots.{ArePresent, IsFilled, read-under, count-under, vacant-differs, key-differs, rules_under-other, present-other, rules_under-at, map-insert, rules_under-insert, rules_under-remove, present-insert, remove-set, present-remove}
+use Rattle.rule_store.proofs.Slots.{no_item, count-under, key-differs, map-insert, All-insert, All-remove, rules_under-insert, rules_under-remove, rules_under-other, rules_under-at, freed-within, freed-read, freed-all, key-fresh}
+
+-- how many entries each item's rule takes by covers
+abbrev pub sizes_of : List Item → List ℕ
+sizes_of items = map (λ (item : Item). item.size) items
+
+-- a free key is none of an item's
+abbrev pub IsApart : List ℕ → Item → Type 0
+IsApart free item = All (λ key. key ≡ item.key → ⊥) free
 
 -- a rule comes in under a key that had none
-module _ (old new : Slab Rule) (keys : List ℕ) (capacity spare key place : ℕ) (rule : Rule) (stored : IsStored old keys capacity spare) (is : IsPlace (rules_under old keys) rule.priority place) (absent : IsFalse (has_priority (rules_under old keys) rule.priority)) (vacant : get old key ≡ None) (updates : Updates old new key (Some rule)) where
-  pub rules-inserted : rules_under new (insert keys place key) ≡ with_rule (rules_under old keys) rule
+module _ (old new : List Rule) (capacity : ℕ) (free freed : List ℕ) (free_capacity : ℕ) (items : List Item) (room spare place : ℕ) (item : Item) (rule : Rule) (stored : IsStored old capacity free free_capacity items room spare) (is : IsPlace (rules_under old items) rule.priority place) (absent : IsFalse (has_priority (rules_under old items) rule.priority)) (puts : PutsRule old free new freed item.key rule) where
+  fresh : (k : ℕ) → k < length items → (get_or items k no_item).key ≢ item.key
+  fresh = key-fresh old free new freed item.key rule puts items stored.keyed stored.apart
+
+  kept : rules_under new items ≡ rules_under old items
+  kept = rules_under-other old new items item.key puts.others stored.keyed fresh
+
+  pub rules-inserted : rules_under new (insert items place item) ≡ with_rule (rules_under old items) rule
   rules-inserted =
-      let there : rule_under new key ≡ rule = rw updates.changed refl in
-      let others = rules_under-other old new keys key (Some rule) updates (vacant-differs old keys key stored.present vacant) in
-      rules_under-insert new keys place key
-      ∙ ap₂ (λ (a : List Rule) (b : Rule). insert a place b) others there
-      ∙ sym (with_rule-at (rules_under old keys) rule place is absent)
+      rules_under-insert new items place item
+      ∙ ap₂ (λ (a : List Rule) (b : Rule). insert a place b) kept puts.is
+      ∙ sym (with_rule-at (rules_under old items) rule place is absent)
 
-  pub stored-inserted : (capacity' : ℕ) → capacity' ≡ capacity → 0 < spare → slab_len new ≡ slab_len old + 1 → new.capacity ≡ old.capacity → IsStored new (insert keys place key) capacity' (spare - 1)
-  stored-inserted capacity' same some longer room =
-      let count = length-insert keys place key (omega (arith, is.within, count-under old keys)) in
-      let slab_room = stored.slab_room in
+  pub inserted-count : length (insert items place item) ≡ length items + 1
+  inserted-count = length-insert items place item (omega (arith, is.within, count-under old items))
+
+  once-freed : AreOnce freed
+  once-freed i j none less to same =
+      stored.once i j none less (freed-within old free new freed item.key rule puts j to)
+      (freed-read old free new freed item.key rule puts i none (omega arith) ∙ same ∙ sym (freed-read old free new freed item.key rule puts j none to))
+
+  -- the key isn't free any more
+  used : IsApart freed item
+  used =
+      All-from_get_or (λ key. key ≡ item.key → ⊥) freed 0 (λ k to same.
+      elim puts.fresh [
+        | inl last ↦
+            let n = ap (length {A = ℕ}) last ∙ length-append freed (item.key ∷ []) in
+            let end : get_or free (length freed) 0 ≡ item.key = ap (λ (keys : List ℕ). get_or keys (length freed) 0) last ∙ get_or_push freed item.key 0 (length freed) refl in
+            stored.once k (length freed) 0 to (omega arith) (freed-read old free new freed item.key rule puts k 0 to ∙ same ∙ sym end)
+        | inr next ↦ let n = ap (length {A = ℕ}) next.1 in absurd (omega arith)
+      ])
+
+  free-apart : All (IsApart freed) items
+  free-apart = All-weaker (IsApart free) (IsApart freed) (λ one apart. freed-all old free new freed item.key rule puts (λ key. key ≡ one.key → ⊥) apart) items stored.apart
+
+  pub stored-inserted : (capacity' free_capacity' room' spare' : ℕ) → capacity' ≡ capacity → free_capacity' ≡ free_capacity → room' + 1 ≡ room → spare' + 1 ≡ spare → IsStored new capacity' freed free_capacity' (insert items place item) room' spare'
+  stored-inserted capacity' free_capacity' room' spare' same same_free less fewer =
+      let longer = puts.longer in
+      let count = puts.count in
+      let here = puts.within in
+      let keys = stored.keys in
+      let rule_room = stored.rule_room in
+      let free_room = stored.free_room in
       let key_room = stored.key_room in
+      let order_room = stored.order_room in
       let fits = stored.count in
-      let filled : IsSome (get new key) = rw updates.changed refl in
       record {
-        present = present-insert new keys place key (present-other old new keys key (Some rule) updates (vacant-differs old keys key stored.present vacant) stored.present) filled;
-        falling = rw rules-inserted (IsRuleSet-with_rule (rules_under old keys) rule stored.falling absent);
-        slab_room = omega arith;
-        key_room = omega arith;
-        count = omega arith;
+        keyed = All-insert (λ (one : Item). one.key < length new) items place item (All-weaker (λ (one : Item). one.key < length old) (λ (one : Item). one.key < length new) (λ one within. omega arith) items stored.keyed) here;
+        falling = rw rules-inserted (IsRuleSet-with_rule (rules_under old items) rule stored.falling absent);
+        free_within = freed-all old free new freed item.key rule puts (λ key. key < length new) (All-weaker (λ (key : ℕ). key < length old) (λ (key : ℕ). key < length new) (λ key within. omega arith) free stored.free_within);
+        once = once-freed;
+        apart = All-insert (IsApart freed) items place item free-apart used;
+        keys = omega (arith, inserted-count);
+        rule_room = omega (arith, inserted-count);
+        free_room = omega (arith, inserted-count);
+        key_room = key-room';
+        order_room = omega arith;
+        count = omega (arith, inserted-count);
       }
+    where
+      key-room' : length new ≤ free_capacity'
+      key-room' =
+          let count = puts.count in
+          let keys = stored.keys in
+          let free_room = stored.free_room in
+          let key_room = stored.key_room in
+          elim puts.fresh [
+            | inl last ↦ let n = ap (length {A = ℕ}) last ∙ length-append freed (item.key ∷ []) in omega arith
+            | inr next ↦ let n = ap (length {A = ℕ}) next.1 in omega arith
+          ]
 
-  -- the entries that it takes come in at its place
-  pub sizes-inserted : (sizes : List ℕ) → sizes ≡ map (entries_needed Cover) (rules_under old keys)
-      → insert sizes place (entries_needed Cover rule) ≡ map (entries_needed Cover) (rules_under new (insert keys place key))
-  sizes-inserted sizes same =
-      ap (λ (s : List ℕ). insert s place (entries_needed Cover rule)) same
-      ∙ sym (map-insert (entries_needed Cover) (rules_under old keys) place rule)
-      ∙ ap (map (entries_needed Cover)) (sym (with_rule-at (rules_under old keys) rule place is absent) ∙ sym rules-inserted)
-
-  pub sized-inserted : (sizes : List ℕ) (size_capacity capacity' size_capacity' : ℕ) → IsSized old keys capacity sizes size_capacity spare → capacity' ≡ capacity → size_capacity' ≡ size_capacity
-      → 0 < spare → slab_len new ≡ slab_len old + 1 → new.capacity ≡ old.capacity
-      → IsSized new (insert keys place key) capacity' (insert sizes place (entries_needed Cover rule)) size_capacity' (spare - 1)
-  sized-inserted sizes size_capacity capacity' size_capacity' sized same same_size some longer room =
-      let count = length-insert keys place key (omega (arith, is.within, count-under old keys)) in
-      let size_room = sized.size_room in
+  pub sized-inserted : (capacity' free_capacity' room' spare' : ℕ) → capacity' ≡ capacity → free_capacity' ≡ free_capacity → room' + 1 ≡ room → spare' + 1 ≡ spare
+      → sizes_of items ≡ map (entries_needed Cover) (rules_under old items) → item.size ≡ entries_needed Cover rule
+      → IsSized new capacity' freed free_capacity' (insert items place item) room' spare'
+  sized-inserted capacity' free_capacity' room' spare' same same_free less fewer sizes size =
       record {
-        stored = stored-inserted capacity' same some longer room;
-        sizes_are = sizes-inserted sizes sized.sizes_are;
-        size_room = omega arith;
+        stored = stored-inserted capacity' free_capacity' room' spare' same same_free less fewer;
+        sizes_are =
+            map-insert (λ (one : Item). one.size) items place item
+            ∙ ap₂ (λ (a : List ℕ) (b : ℕ). insert a place b) sizes size
+            ∙ sym (map-insert (entries_needed Cover) (rules_under old items) place rule)
+            ∙ ap (map (entries_needed Cover)) (sym (with_rule-at (rules_under old items) rule place is absent) ∙ sym rules-inserted);
       }
 
 -- the one rule of a priority is found at its place
-pub stored-at : (slab : Slab Rule) (keys : List ℕ) (capacity spare priority place : ℕ) → IsStored slab keys capacity spare → IsPlace (rules_under slab keys) priority place → IsTrue (has_priority (rules_under slab keys) priority) → IsAt (rules_under slab keys) priority place
-stored-at slab keys capacity spare priority place stored is present = IsAt-present (rules_under slab keys) priority place stored.falling is present
+pub stored-at : (rules : List Rule) (capacity : ℕ) (free : List ℕ) (free_capacity : ℕ) (items : List Item) (room spare priority place : ℕ) → IsStored rules capacity free free_capacity items room spare → IsPlace (rules_under rules items) priority place → IsTrue (has_priority (rules_under rules items) priority) → IsAt (rules_under rules items) priority place
+stored-at rules capacity free free_capacity items room spare priority place stored is present = IsAt-present (rules_under rules items) priority place stored.falling is present
 
 -- a rule takes as many entries with whatever result
 sizes-answered : (rules : List Rule) (priority answer : ℕ) → map (entries_needed Cover) (with_answer rules priority answer) ≡ map (entries_needed Cover) rules
@@ -80,112 +127,108 @@ sizes-answered (rule ∷ rules) priority answer =
     either false = refl
 
 -- a rule changes its result under its key
-module _ (slab : Slab Rule) (keys : List ℕ) (capacity spare priority answer place : ℕ) (rule : Rule) (stored : IsStored slab keys capacity spare) (at : IsAt (rules_under slab keys) priority place) (found : get slab (get_or keys place 0) ≡ Some rule) where
-  -- the slab with the changed rule
-  abbrev pub slab-changed : Slab Rule
-  slab-changed = with_value slab (get_or keys place 0) (record rule { result = answer })
+module _ (rules : List Rule) (capacity : ℕ) (free : List ℕ) (free_capacity : ℕ) (items : List Item) (room spare priority answer place : ℕ) (stored : IsStored rules capacity free free_capacity items room spare) (at : IsAt (rules_under rules items) priority place) where
+  -- the table with the changed rule
+  abbrev pub rules-with : List Rule
+  rules-with = set rules (get_or items place no_item).key (record (get_or rules (get_or items place no_item).key no_rule) { result = answer })
 
-  updates-changed : Updates slab slab-changed (get_or keys place 0) (Some (record rule { result = answer }))
-  updates-changed = Updates-with_value slab (get_or keys place 0) (record rule { result = answer }) (rw found refl)
+  within-items : place < length items
+  within-items = omega (arith, at.within, count-under rules items)
 
-  within-keys : place < length keys
-  within-keys = omega (arith, at.within, count-under slab keys)
-
-  pub rules-changed : rules_under slab-changed keys ≡ with_answer (rules_under slab keys) priority answer
+  pub rules-changed : rules_under rules-with items ≡ with_answer (rules_under rules items) priority answer
   rules-changed =
-      let read = read-under slab keys place rule no_rule within-keys found in
-      let there : rule_under slab-changed (get_or keys place 0) ≡ record rule { result = answer } = rw updates-changed.changed refl in
-      rules_under-at slab slab-changed keys (get_or keys place 0) (Some (record rule { result = answer })) updates-changed place within-keys refl (key-differs slab keys priority place at)
-      ∙ ap (λ (r : Rule). set (rules_under slab keys) place r) (there ∙ ap (λ (r : Rule). record r { result = answer }) (sym read))
-      ∙ sym (with_answer-at (rules_under slab keys) priority answer place no_rule at)
+      rules_under-at rules items place (record (get_or rules (get_or items place no_item).key no_rule) { result = answer }) stored.keyed within-items (key-differs rules items priority place at)
+      ∙ ap (λ (r : Rule). set (rules_under rules items) place (record r { result = answer })) (sym (get_or-map (rule_under rules) items place no_item no_rule within-items))
+      ∙ sym (with_answer-at (rules_under rules items) priority answer place no_rule at)
 
-  -- as many values as before
-  slab_len-changed : slab_len slab-changed ≡ slab_len slab
-  slab_len-changed =
-      let filled : ContainsKey slab (get_or keys place 0) = rw found refl in
-      let within = ContainsKey-within slab (get_or keys place 0) filled in
-      let one = λ (slot : Option Rule). cond (is_some slot) 1 0 in
-      let count = sum_by-set one slab.slots (get_or keys place 0) (Some (record rule { result = answer })) None within in
-      let was : one (get slab (get_or keys place 0)) ≡ 1 = rw found refl in
-      omega (arith, count, was)
-
-  present-changed : ArePresent slab-changed keys
-  present-changed = All-from_get_or (IsFilled slab-changed) keys 0 at-each
-    where
-      at-each : (k : ℕ) → k < length keys → IsFilled slab-changed (get_or keys k 0)
-      at-each k to =
-          elim (cases_eq (get_or keys k 0) (get_or keys place 0)) [
-            | inl same ↦ rw (same, updates-changed.changed) refl
-            | inr differs ↦ rw (updates-changed.others (get_or keys k 0) differs) (stored.present k 0 to)
-          ]
-
-  pub stored-changed : IsStored slab-changed keys capacity spare
-  stored-changed =
-      let slab_room = stored.slab_room in
-      record {
-        present = present-changed;
-        falling = rw rules-changed (IsRuleSet-with_answer (rules_under slab keys) priority answer stored.falling);
-        slab_room = omega (arith, slab_len-changed);
-        key_room = stored.key_room;
-        count = stored.count;
-      }
-
-  -- it takes as many entries as before
-  pub sizes-changed : map (entries_needed Cover) (rules_under slab keys) ≡ map (entries_needed Cover) (rules_under slab-changed keys)
-  sizes-changed = sym (sizes-answered (rules_under slab keys) priority answer) ∙ ap (map (entries_needed Cover)) (sym rules-changed)
-
-  pub sized-changed : (sizes : List ℕ) (size_capacity : ℕ) → IsSized slab keys capacity sizes size_capacity spare → IsSized slab-changed keys capacity sizes size_capacity spare
-  sized-changed sizes size_capacity sized =
-      record { stored = stored-changed; sizes_are = sized.sizes_are ∙ sizes-changed; size_room = sized.size_room }
-
--- the rule at a place goes with its key
-module _ (old new : Slab Rule) (keys : List ℕ) (capacity spare priority place : ℕ) (stored : IsStored old keys capacity spare) (at : IsAt (rules_under old keys) priority place) (updates : Updates old new (get_or keys place 0) None) where
-  pub rules-removed : rules_under new (remove keys place) ≡ without_rule (rules_under old keys) priority
-  rules-removed =
-      let within : place < length keys = omega (arith, at.within, count-under old keys) in
-      let differs = key-differs old keys priority place at in
-      rules_under-remove new keys place
-      ∙ ap (λ (a : List Rule). remove a place) (rules_under-at old new keys (get_or keys place 0) None updates place within refl differs)
-      ∙ remove-set (rules_under old keys) place (rule_under new (get_or keys place 0))
-      ∙ sym (without_rule-at (rules_under old keys) priority place at)
-
-  pub stored-removed : (capacity' : ℕ) → capacity' ≡ capacity → slab_len new + 1 ≡ slab_len old → new.capacity ≡ old.capacity → IsStored new (remove keys place) capacity' (spare + 1)
-  stored-removed capacity' same shorter room =
-      let within : place < length keys = omega (arith, at.within, count-under old keys) in
-      let count = length-remove keys place within in
-      let slab_room = stored.slab_room in
+  pub sized-changed : sizes_of items ≡ map (entries_needed Cover) (rules_under rules items) → IsSized rules-with capacity free free_capacity items room spare
+  sized-changed sizes =
+      let count : length rules-with ≡ length rules = length-set rules (get_or items place no_item).key (record (get_or rules (get_or items place no_item).key no_rule) { result = answer }) in
+      let keys = stored.keys in
       let key_room = stored.key_room in
+      record {
+        stored = record {
+          keyed = All-weaker (λ (one : Item). one.key < length rules) (λ (one : Item). one.key < length rules-with) (λ one within. omega arith) items stored.keyed;
+          falling = rw rules-changed (IsRuleSet-with_answer (rules_under rules items) priority answer stored.falling);
+          free_within = All-weaker (λ (key : ℕ). key < length rules) (λ (key : ℕ). key < length rules-with) (λ key within. omega arith) free stored.free_within;
+          once = stored.once;
+          apart = stored.apart;
+          keys = omega arith;
+          rule_room = stored.rule_room;
+          free_room = stored.free_room;
+          key_room = omega arith;
+          order_room = stored.order_room;
+          count = stored.count;
+        };
+        sizes_are = sizes ∙ sym (sizes-answered (rules_under rules items) priority answer) ∙ ap (map (entries_needed Cover)) (sym rules-changed);
+      }
+
+-- the rule at a place goes, and its key is free
+module _ (rules : List Rule) (capacity : ℕ) (free : List ℕ) (free_capacity : ℕ) (items : List Item) (room spare priority place : ℕ) (stored : IsStored rules capacity free free_capacity items room spare) (at : IsAt (rules_under rules items) priority place) where
+  place-within : place < length items
+  place-within = omega (arith, at.within, count-under rules items)
+
+  abbrev key : ℕ
+  key = (get_or items place no_item).key
+
+  pub rules-removed : rules_under rules (remove items place) ≡ without_rule (rules_under rules items) priority
+  rules-removed = rules_under-remove rules items place ∙ sym (without_rule-at (rules_under rules items) priority place at)
+
+  once-more : AreOnce (free ++ key ∷ [])
+  once-more i j none less to same =
+      let count = length-append free (key ∷ []) in
+      let first = get_or_append_left free (key ∷ []) none i (omega arith) in
+      elim (cases_lt j (length free)) [
+        | inl before ↦ stored.once i j none less before (sym first ∙ same ∙ get_or_append_left free (key ∷ []) none j before)
+        | inr end ↦
+            let last : get_or (free ++ key ∷ []) j none ≡ key = get_or_push free key none j (omega arith) in
+            stored.apart place no_item place-within i none (omega arith) (sym first ∙ same ∙ last)
+      ]
+
+  apart-more : All (IsApart (free ++ key ∷ [])) (remove items place)
+  apart-more =
+      All-from_get_or (IsApart (free ++ key ∷ [])) (remove items place) no_item (λ k to.
+      let count = length-remove items place place-within in
+      elim (cases_lt k place) [
+        | inl before ↦ rw (get_or-remove_below items place no_item k before place-within) (each k (omega arith) (omega arith))
+        | inr from ↦ rw (get_or-remove_above items place no_item k from place-within) (each (k + 1) (omega arith) (omega arith))
+      ])
+    where
+      each : (k : ℕ) → k < length items → k ≢ place → IsApart (free ++ key ∷ []) (get_or items k no_item)
+      each k to away =
+          All-push (λ f. f ≡ (get_or items k no_item).key → ⊥) free key (stored.apart k no_item to)
+          (λ same. key-differs rules items priority place at k to away (sym same))
+
+  pub sized-removed : (free_capacity' room' : ℕ) → free_capacity' ≡ free_capacity → room' ≡ room + 1
+      → sizes_of items ≡ map (entries_needed Cover) (rules_under rules items)
+      → IsSized rules capacity (free ++ key ∷ []) free_capacity' (remove items place) room' (spare + 1)
+  sized-removed free_capacity' room' same more sizes =
+      let count = length-remove items place place-within in
+      let longer = length-append free (key ∷ []) in
+      let keys = stored.keys in
+      let rule_room = stored.rule_room in
+      let free_room = stored.free_room in
+      let key_room = stored.key_room in
+      let order_room = stored.order_room in
       let fits = stored.count in
+      let within : key < length rules = stored.keyed place no_item place-within in
       record {
-        present = present-remove old new keys place None updates within (key-differs old keys priority place at) stored.present;
-        falling = rw rules-removed (IsRuleSet-without_rule (rules_under old keys) priority stored.falling);
-        slab_room = omega arith;
-        key_room = omega arith;
-        count = omega arith;
+        stored = record {
+          keyed = All-remove (λ (one : Item). one.key < length rules) items place stored.keyed;
+          falling = rw rules-removed (IsRuleSet-without_rule (rules_under rules items) priority stored.falling);
+          free_within = All-push (λ (k : ℕ). k < length rules) free key stored.free_within within;
+          once = once-more;
+          apart = apart-more;
+          keys = omega arith;
+          rule_room = omega arith;
+          free_room = omega arith;
+          key_room = omega arith;
+          order_room = omega arith;
+          count = omega arith;
+        };
+        sizes_are =
+            map-remove (λ (one : Item). one.size) items place
+            ∙ ap (λ (s : List ℕ). remove s place) sizes
+            ∙ sym (map-remove (entries_needed Cover) (rules_under rules items) place)
+            ∙ ap (map (entries_needed Cover)) (sym (rules_under-remove rules items place));
       }
-
-  -- and so do the entries that it takes
-  pub sizes-removed : (sizes : List ℕ) → sizes ≡ map (entries_needed Cover) (rules_under old keys)
-      → remove sizes place ≡ map (entries_needed Cover) (rules_under new (remove keys place))
-  sizes-removed sizes same =
-      ap (λ (s : List ℕ). remove s place) same
-      ∙ sym (map-remove (entries_needed Cover) (rules_under old keys) place)
-      ∙ ap (map (entries_needed Cover)) (sym (without_rule-at (rules_under old keys) priority place at) ∙ sym rules-removed)
-
-  pub sized-removed : (sizes : List ℕ) (size_capacity capacity' size_capacity' : ℕ) → IsSized old keys capacity sizes size_capacity spare → capacity' ≡ capacity → size_capacity' ≡ size_capacity
-      → slab_len new + 1 ≡ slab_len old → new.capacity ≡ old.capacity
-      → IsSized new (remove keys place) capacity' (remove sizes place) size_capacity' (spare + 1)
-  sized-removed sizes size_capacity capacity' size_capacity' sized same same_size shorter room =
-      let within : place < length keys = omega (arith, at.within, count-under old keys) in
-      let count = length-remove keys place within in
-      let size_room = sized.size_room in
-      record {
-        stored = stored-removed capacity' same shorter room;
-        sizes_are = sizes-removed sizes sized.sizes_are;
-        size_room = omega arith;
-      }
-
--- there are as many numbers of entries as keys
-pub count-sizes : (slab : Slab Rule) (keys : List ℕ) (capacity : ℕ) (sizes : List ℕ) (size_capacity spare : ℕ) → IsSized slab keys capacity sizes size_capacity spare → length sizes ≡ length keys
-count-sizes slab keys capacity sizes size_capacity spare sized =
-    ap length sized.sizes_are ∙ (length-map (rules_under slab keys) (entries_needed Cover) ∙ count-under slab keys)

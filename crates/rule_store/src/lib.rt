@@ -1,9 +1,9 @@
 //! Rule sets, batches of changes to them, and which batches a memory takes.
 //!
-//! A [`Store`] is a set of rules, read by falling priority. The rules stand in a slab, and beside it a
-//! list of slab keys by falling priority: a rule is found by halving that list, and an insertion or a
-//! removal shifts keys alone. Memory is taken by `reserve`, never by a change; contracts see how many
-//! rules more have theirs as `spare`.
+//! A [`Store`] is a set of rules, read by falling priority. The rules stand in a table by their keys, and beside it the
+//! keys by falling priority in counted blocks: a rule is found by halving the blocks and then a block, an insertion or a
+//! removal shifts the keys of one block alone, and what stands above a priority is told by the blocks. Memory is taken by
+//! `reserve`, never by a change; contracts see how many rules more have theirs as `spare`.
 //!
 //! A [`Batch`] is a list of commands. Each is kept with how it names its priority among the earlier ones,
 //! told at its push by a map from priorities to their uses. So [`Store::check`] names the first command
@@ -29,7 +29,9 @@ mod applied;
 mod entries;
 mod laws;
 mod pending;
+mod search;
 mod stored;
+mod table;
 
 pub use entries::{entries_needed, same_conditions};
 pub use laws::{has_added_and_kept_rules, is_a_set_afterward};

@@ -1,73 +1,44 @@
 //! A set of rules by falling priority.
 
-ghost use Rattle.std.specs.Prelude.{take, ◌≡◌, ◌↔◌, ◌+◌, ◌-◌, ◌*◌, ◌<◌, ◌≤◌, ◌^◌, ℕ, [], ◌∷◌, None, Some, IsTrue, IsFalse, IsSome, IfOk, IfErr, IfSome, OnOk, OnErr, length, slice_get, slice_index, option_copied, is_some, MatchResult, All, not, sum};
-ghost use Rattle.slab.specs.Slab.{get};
+ghost use Rattle.std.specs.Prelude.{◌≡◌, ◌↔◌, ◌+◌, ◌*◌, ◌<◌, ◌≤◌, ◌^◌, [], None, Some, IsTrue, IsFalse, OnOk, OnErr, length, slice_get, option_copied, is_some, MatchResult};
 ghost use Rattle.rule_model.specs.RuleSet.{IsRuleSet, best_rule, has_priority, rule_at};
 ghost use Rattle.rule_store.specs.Batch.{batch_fault, with_rule};
-ghost use Rattle.rule_store.specs.Store.{IsPlace, rules_above, rules_under, with_answer, without_rule};
+ghost use Rattle.rule_store.specs.Store.{rules_above, with_answer, without_rule};
 ghost use Rattle.rule_store.specs.Naming.{named_fault};
 ghost use Rattle.rule_store.specs.Verdict.{entries_of};
 
 use crate::entries::entries_needed;
 use crate::pending::{Named, Naming};
+use crate::search::{best_in, place_of};
+use crate::table::{put, room_for};
 use crate::{Batch, BatchFault, Command, Mode};
-use rule_model::{Key, Rank, Rule, matches};
-use slab::Slab;
+use counted_blocks::{CountedBlocks, Item};
+use rule_model::{Key, Rank, Rule};
 use std::alloc::{AllocError, Global};
 use std::marker::Model;
 
 /// A set of rules, no two of one priority.
 #[derive(Drop)]
 pub struct Store {
-    rules: Slab<Rule>,
-    // The slab keys of the rules, by falling priority.
-    order: Vec<usize>,
-    // How many entries each of them takes by covers, in the same order.
-    sizes: Vec<u16>,
+    // The rules by their keys, and the keys that no rule has.
+    rules: Vec<Rule>,
+    free: Vec<u32>,
+    // The keys of the rules by falling priority, each with how many entries its rule takes by covers.
+    order: CountedBlocks,
     // How many rules more have their room in all three.
     spare: u32,
 }
 
 impl Model for Store {
     ghost use Rattle.std.specs.Prelude.{vec_capacity};
+    ghost use Rattle.counted_blocks.specs.Counted.{items_of};
     ghost use Rattle.rule_store.specs.Store.{StoredRules, IsSized, rules_under};
 
     ghost Value = { StoredRules };
 
-    ghost view = { λ s. record { rules = rules_under s.rules s.order.items; spare = s.spare } };
+    ghost view = { λ s. record { rules = rules_under s.rules.items (items_of s.order.blocks); spare = s.spare } };
 
-    ghost invariant = { λ s. IsSized s.rules s.order.items (vec_capacity s.order) s.sizes.items (vec_capacity s.sizes) s.spare };
-}
-
-// The place of the first rule whose priority isn't above this one, by halving.
-fn place_of(rules: &Slab<Rule>, order: &[usize], priority: Rank) -> usize
-    requires present { All (λ key. IsSome (get rules.now key)) order.now }
-    requires falling { IsRuleSet (rules_under rules.now order.now) }
-    ensures { IsPlace (rules_under rules.now order.now) priority result }
-{
-    let mut low = 0;
-    let mut high = order.len();
-    while low < high {
-        let middle = low + (high - low) / 2;
-        if priority < rules[order[middle]].priority {
-            low = middle + 1;
-        } else {
-            high = middle;
-        }
-    }
-    low
-}
-
-// The sum of some numbers.
-fn sum_of(numbers: &[u16]) -> u64
-    requires { length numbers.now < 2 ^ 32 }
-    ensures { result ≡ sum numbers.now }
-{
-    let mut total = 0;
-    for number in numbers {
-        total += u64::from(*number);
-    }
-    total
+    ghost invariant = { λ s. IsSized s.rules.items (vec_capacity s.rules) s.free.items (vec_capacity s.free) (items_of s.order.blocks) s.order.room s.spare };
 }
 
 impl Store {
@@ -77,9 +48,9 @@ impl Store {
         ensures spare { result.spare ≡ 0 }
     {
         Store {
-            rules: Slab::new(alloc),
-            order: Vec::new(alloc),
-            sizes: Vec::new(alloc),
+            rules: Vec::new(alloc),
+            free: Vec::new(alloc),
+            order: CountedBlocks::new(alloc),
             spare: 0,
         }
     }
@@ -92,10 +63,14 @@ impl Store {
         ensures least { self.old.spare ≤ self.new.spare }
         ensures same { OnErr result (self.new ≡ self.old) }
     {
-        self.rules.reserve(n as usize)?;
-        self.order.reserve(n as usize)?;
-        self.sizes.reserve(n as usize)?;
-        self.spare = self.spare.max(n);
+        if n <= self.spare {
+            return Ok(());
+        }
+        self.order.reserve(n)?;
+        let more = n as usize;
+        self.rules.reserve(room_for(self.free.len(), more))?;
+        self.free.reserve(self.rules.len() + more)?;
+        self.spare = n;
         Ok(())
     }
 
@@ -106,11 +81,10 @@ impl Store {
         ensures rules { self.new.rules ≡ with_rule self.old.rules rule }
         ensures spare { self.new.spare + 1 ≡ self.old.spare }
     {
-        let place = place_of(&self.rules, self.order.as_slice(), rule.priority);
+        let place = place_of(&self.rules, &self.order, rule.priority);
         let size = entries_needed(Mode::Cover, &rule) as u16;
-        let key = self.rules.insert_reserved(rule);
-        self.order.insert(place, key).unwrap();
-        self.sizes.insert(place, size).unwrap();
+        let key = put(&mut self.rules, &mut self.free, rule);
+        self.order.insert(place, Item { key, size });
         self.spare -= 1;
     }
 
@@ -120,8 +94,8 @@ impl Store {
         ensures rules { self.new.rules ≡ with_answer self.old.rules priority answer }
         ensures spare { self.new.spare ≡ self.old.spare }
     {
-        let place = place_of(&self.rules, self.order.as_slice(), priority);
-        self.rules[self.order[place]].result = answer;
+        let place = place_of(&self.rules, &self.order, priority);
+        self.rules[self.order.at(place).key as usize].result = answer;
     }
 
     /// Takes a rule out of the set. Its room stays for another.
@@ -130,10 +104,9 @@ impl Store {
         ensures rules { self.new.rules ≡ without_rule self.old.rules priority }
         ensures spare { self.new.spare ≡ self.old.spare + 1 }
     {
-        let place = place_of(&self.rules, self.order.as_slice(), priority);
-        let key = self.order.remove(place);
-        self.rules.remove(key);
-        self.sizes.remove(place);
+        let place = place_of(&self.rules, &self.order, priority);
+        let item = self.order.remove(place);
+        self.free.push_reserved(item.key);
         self.spare += 1;
     }
 
@@ -142,29 +115,28 @@ impl Store {
         ensures count { result ≡ length self.now.rules }
         ensures falling { IsRuleSet self.now.rules }
     {
-        self.order.len() as u32
+        self.order.len()
     }
 
-    /// How many entries the rules above a priority take. It reads a number for each of them, and rules only to find the
-    /// first of the others.
+    /// How many entries the rules above a priority take. It asks the blocks for what stands before the first of the others.
     pub fn entries_above(&self, mode: Mode, priority: Rank) -> u64
         ensures count { result ≡ entries_of mode (rules_above self.now.rules priority) }
         ensures most { result ≤ entries_of mode self.now.rules }
     {
-        let place = place_of(&self.rules, self.order.as_slice(), priority);
+        let place = place_of(&self.rules, &self.order, priority);
         match mode {
-            Mode::Cover => sum_of(&self.sizes[..place]),
-            Mode::Bits => place as u64,
+            Mode::Cover => self.order.size_before(place),
+            Mode::Bits => u64::from(place),
         }
     }
 
-    /// How many entries the rules of the set take, 900 each at most. It reads a number for each of them, and no rule.
+    /// How many entries the rules of the set take, 900 each at most. It reads no rule.
     pub fn entries_of(&self, mode: Mode) -> u64
         ensures count { result ≡ entries_of mode self.now.rules }
         ensures most { result ≤ 900 * length self.now.rules }
     {
         match mode {
-            Mode::Cover => sum_of(&self.sizes),
+            Mode::Cover => self.order.size(),
             Mode::Bits => u64::from(self.len()),
         }
     }
@@ -181,7 +153,7 @@ impl Store {
         requires { i < length self.now.rules }
         ensures { slice_get self.now.rules i ≡ Some result.now }
     {
-        &self.rules[self.order[i as usize]]
+        &self.rules[self.order.at(i).key as usize]
     }
 
     /// The rule of this priority, if there is one.
@@ -189,11 +161,11 @@ impl Store {
         ensures found { option_copied result ≡ rule_at self.now.rules priority }
         ensures present { is_some result ≡ has_priority self.now.rules priority }
     {
-        let place = place_of(&self.rules, self.order.as_slice(), priority);
+        let place = place_of(&self.rules, &self.order, priority);
         if place == self.order.len() {
             return None;
         }
-        let rule = &self.rules[self.order[place]];
+        let rule = &self.rules[self.order.at(place).key as usize];
         if rule.priority == priority {
             Some(rule)
         } else {
@@ -206,9 +178,8 @@ impl Store {
     pub fn best(&self, key: &Key) -> Option<&Rule>
         ensures { option_copied result ≡ best_rule self.now.rules key.now }
     {
-        for place in self.order.iter() {
-            let rule = &self.rules[*place];
-            if matches(rule, key) {
+        for block in 0..self.order.block_count() {
+            if let Some(rule) = best_in(&self.rules, &self.order, block, key) {
                 return Some(rule);
             }
         }

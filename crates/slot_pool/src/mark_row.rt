@@ -1,5 +1,5 @@
 //! Rows of marks, 64 a word, in which a search passes 64 places with no mark at a step.
-ghost use Rattle.std.specs.Prelude.{◌≡◌, ◌<◌, ◌≤◌, true, false, IfOk, length, replicate, slice_set, slice_index_or};
+ghost use Rattle.std.specs.Prelude.{◌≡◌, ◌<◌, ◌≤◌, true, false, [], OnOk, OnErr, length, replicate, slice_set, slice_index_or};
 ghost use Rattle.slot_pool.specs.Rows.{IsNextSet, IsLastSet};
 
 use crate::{MOST_PLACES, free};
@@ -27,13 +27,28 @@ impl Model for Marks {
 }
 
 impl Marks {
-    /// Makes a row of `places` places, up to `MOST_PLACES`, none of them marked.
-    pub fn new(alloc: Global, places: u32) -> Result<Marks, AllocError>
-        requires { places ≤ MOST_PLACES }
-        ensures { IfOk result (λ marks. marks ≡ replicate places false) }
+    /// Makes a row of no places, which takes its memory from `alloc` as it is restarted.
+    pub fn new(alloc: Global) -> Marks
+        ensures { result ≡ [] }
     {
-        let words = vec![in alloc; 0; places.div_ceil(64) as usize]?;
-        Ok(Marks { words, places })
+        Marks {
+            words: Vec::new(alloc),
+            places: 0,
+        }
+    }
+
+    /// Makes it a row of `places` places, up to `MOST_PLACES`, none of them marked, in the memory that it has where that is
+    /// enough. After a refusal it has no places.
+    pub fn restart(&mut self, places: u32) -> Result<(), AllocError>
+        requires { places ≤ MOST_PLACES }
+        ensures unmarked { OnOk result (self.new ≡ replicate places false) }
+        ensures refused { OnErr result (self.new ≡ []) }
+    {
+        self.places = 0;
+        self.words.clear();
+        self.words.resize(places.div_ceil(64) as usize, 0)?;
+        self.places = places;
+        Ok(())
     }
 
     /// The number of places, up to `MOST_PLACES`.

@@ -65,7 +65,7 @@ gone live id = false_from_ne_true (is_live (without_id live id) id) (λ now.
     let bad : not true ≡ true = subst (λ b. not b ≡ true) w.2 kept.1 in cc)
 
 -- and what wasn't live still isn't
-absent_without : (live : List LivePiece) (id other : ℕ) → is_live live other ≡ false → is_live (without_id live id) other ≡ false
+pub absent_without : (live : List LivePiece) (id other : ℕ) → is_live live other ≡ false → is_live (without_id live id) other ≡ false
 absent_without live id other absent = false_from_ne_true (is_live (without_id live id) other) (λ now.
     let w = any_is (λ x. x.id == other) (without_id live id) now in
     let kept = in_filter (λ x. not (x.id == id)) live w.0 w.1 in

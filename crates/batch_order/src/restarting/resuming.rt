@@ -152,6 +152,7 @@ fn hold(alloc: Global, rest: Rest, drain: (bool, bool), batch: Commands, arrange
         most: _,
         span: _,
         most_parts,
+        sides: _,
     } = plan;
     Held {
         prepared: false,

@@ -10,11 +10,11 @@ use Rattle.move_planner.proofs.sides.mark_behind.Goals.{in-Some-at, in_default-a
 pub loop-slot-init : goal.loop-slot-init
 loop-slot-init c =
     let count = c.args.end - c.args.start in
-    let none : c.in_ok-marks.marks ≡ replicate count false = c.in_ok-marks.ensures in
+    let none : c.restart.new.self ≡ replicate count false = c.in_ok-restart.ensures.unmarked in
     record {
       low = le_refl c.args.start;
       high = c.requires.order;
-      so_far = led_start (is_above c.args.index.now.live) c.args.slots.now c.args.id c.args.start c.args.end c.in_ok-marks.marks c.mark_below.new.marks
+      so_far = led_start (is_above c.args.index.now.live) c.args.slots.now c.args.id c.args.start c.args.end c.restart.new.self c.mark_below.new.marks
           (ap length none ∙ length-replicate count false) (λ at e. no_hit count c.args.start at (subst (λ m. Hit m c.args.start at) none e)) c.mark_below.ensures;
     }
 

@@ -1,14 +1,26 @@
-use Rattle.std.proofs.Common.{◌≡◌, ◌<◌, ◌-◌, ◌∙◌, true, length, vec_len, get_or, ap, rules, arith, sym, subst}
+use Rattle.std.proofs.Common.{◌≡◌, ◌<◌, ◌-◌, ◌∙◌, true, length, Contains, vec_len, get_or, ap, rules, arith, sym, subst}
 use Rattle.std.proofs.lemmas.Grind.{common_steps}
 use Rattle.overlap_index.specs.declared.Change.TheVariants.{Went}
 use Rattle.overlap_index.specs.Changes.{live_after}
 use Rattle.placement.specs.Live.{is_live, without_id}
 use Rattle.overlap_index.proofs.Linked.{live_small}
 use Rattle.overlap_index.proofs.Came.{live_more}
+use Rattle.overlap_index.proofs.InBuckets.{ends_at}
 use Rattle.overlap_index.proofs.Parts.{parts_less}
 use Rattle.overlap_index.proofs.Placed.{Closes, reads_place, last_small}
 use Rattle.overlap_index.proofs.Rows.{columns_size}
 use Rattle.overlap_index.proofs.Index.remove.Goals as goal
+
+pub went-requires-clause-small : goal.went-requires-clause-small
+went-requires-clause-small c =
+    let i = c.self.inside in
+    let live = subst (λ v. is_live v.live c.args.id ≡ true) (sym c.self.view_is) c.requires in
+    subst (λ n. c.args.id < n) (sym c.self.invariant.found.size) (live_small i.slots (live_after i.history.items) c.args.id c.self.invariant.apart live)
+
+pub went-requires-clause-ends : goal.went-requires-clause-ends
+went-requires-clause-ends c =
+    let i = c.self.inside in
+    ends_at i.slots (live_after i.history.items) i.buckets c.self.invariant.apart c.self.invariant.found c.piece_of.result.now.piece c.piece_of.result.now.rank
 
 pub index-requires : goal.index-requires
 index-requires c =
@@ -88,9 +100,9 @@ invariant_of-self c =
       filled = λ d l. c.swap_remove.ensures.by_index.0 d (omega arith) ∙ ap (λ n. get_or i.pieces.items (n - 1) d) size;
       others = λ k d apart l. c.swap_remove.ensures.by_index.1 k d apart (omega arith);
     } in
-    rw (after, c.remove.ensures)
-    (parts_less i.slots c.args.id (live_after i.history.items) i.pieces.items c.swap_remove.new.self.items i.places.items i.columns i.edges c.drop_node.new.self c.index.result.now c.index-2.result.now c.swap_remove.result
-    live at.is (sym end) c.swap_remove.ensures.items closes c.drop_node.ensures.gone c.drop_node.ensures.ids c.self.invariant)
+    rw (after, c.remove.ensures, c.went.ensures)
+    (parts_less i.slots c.args.id c.piece_of.result.now (live_after i.history.items) i.pieces.items c.swap_remove.new.self.items i.places.items i.buckets i.columns i.edges c.drop_node.new.self c.index.result.now c.index-2.result.now c.swap_remove.result
+    (subst (λ v. Contains v.live c.piece_of.result.now) (sym c.self.view_is) c.piece_of.ensures.live) c.piece_of.ensures.id at.is (sym end) c.swap_remove.ensures.items closes c.drop_node.ensures.gone c.drop_node.ensures.ids c.self.invariant)
 
 pub returns-clause-live : goal.returns-clause-live
 returns-clause-live c =

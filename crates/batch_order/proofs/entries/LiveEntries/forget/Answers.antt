@@ -1,18 +1,25 @@
-use Rattle.std.proofs.Common.{rules, ◌≡◌, ◌<◌, length, None, slice_set, true}
-use Rattle.std.proofs.lemmas.List.{length-set}
-use Rattle.placement.specs.Live.{is_live}
+use Rattle.std.proofs.Common.{rules, ◌≡◌, ◌<◌, ◌∙◌, length, None, sym, slice_set, true, arith}
+use Rattle.placement.specs.Live.{is_live, without_id}
+use Rattle.batch_order.specs.Entries.{live_entries}
+use Rattle.batch_order.proofs.ids.AtIds.{size_is, without_at}
 use Rattle.batch_order.proofs.ids.Ids.{kept_less, live_small}
 use Rattle.batch_order.proofs.entries.LiveEntries.forget.Goals as goal
 
-pub index_mut-requires : goal.index_mut-requires
-index_mut-requires c =
-    let now : is_live c.self.inside.index.live c.args.id ≡ true = rw (← c.self.view_is) at c.requires in
-    let small : c.args.id < c.self.inside.index.slots = live_small c.self.inside.index.slots c.self.inside.index.live c.args.id c.self.invariant.0.apart now in
-    let places : length c.self.inside.entries.items ≡ c.self.inside.index.slots = c.self.invariant.0.places in
-    search (rules, small, places)
-
 pub invariant_of-self : goal.invariant_of-self
 invariant_of-self c =
-    let now : is_live c.self.inside.index.live c.args.id ≡ true = rw (← c.self.view_is) at c.requires in
-    let less = kept_less c.self.inside.index.slots c.self.inside.index.live c.self.inside.entries.items (slice_set c.self.inside.entries.items c.args.id None) c.self.inside.spare.items c.args.id c.self.invariant.0 now (length-set c.self.inside.entries.items c.args.id None) in
+    let i = c.self.inside in
+    let now : is_live i.index.live c.args.id ≡ true = rw (← c.self.view_is) at c.requires in
+    let entries = live_entries i.index.live i.entries.items in
+    let entries' = live_entries (without_id i.index.live c.args.id) i.entries.items in
+    let same : length entries' ≡ length entries = size_is (without_id i.index.live c.args.id) i.entries.items ∙ sym (size_is i.index.live i.entries.items) in
+    let less = kept_less i.index.slots i.index.live entries entries' i.spare.items c.args.id c.self.invariant.0 now same in
     (rw (c.remove.ensures.slots, c.remove.ensures.live, c.push_reserved.ensures.items) less, rw c.remove.ensures.slots (search (rules, c.self.invariant.1)))
+
+pub returns-clause-entries : goal.returns-clause-entries
+returns-clause-entries c =
+    let i = c.self.inside in
+    let now : is_live i.index.live c.args.id ≡ true = rw (← c.self.view_is) at c.requires in
+    let small : c.args.id < i.index.slots = live_small i.index.slots i.index.live c.args.id c.self.invariant.0.apart now in
+    let size = size_is i.index.live i.entries.items in
+    let places : length (live_entries i.index.live i.entries.items) ≡ i.index.slots = c.self.invariant.0.places in
+    rw (← c.self.view_is, c.remove.ensures.live) (without_at i.index.live i.entries.items c.args.id (omega arith))

@@ -201,7 +201,7 @@ planned_from old new slots copy middle plan plan' placement mode rules set piece
     (subst (λ (some : List Rule). ArePlannedSince old new copy middle plan plan' listed (aims_of placement mode (length copy) some listed)) same_rules planned))
 
 -- the commit that is held in the end, and that it is the plan of the batch
-abbrev held_now : goal.After-drop-parts-2 → Held
+abbrev held_now : goal.After-drop-plan-3 → Held
 held_now c = record {
   prepared = true;
   writes = c.plan_writes.new.plan.writes;
@@ -220,12 +220,12 @@ held_now c = record {
   most_parts = c.plan_writes.new.plan.most_parts;
 }
 
-stands_now : (c : goal.After-drop-parts-2) → c.self.inside.planned ≡ c.self.inside.arrangement
+stands_now : (c : goal.After-drop-plan-3) → c.self.inside.planned ≡ c.self.inside.arrangement
 stands_now c =
     let i = c.self.inside in
     stands_as i.placement i.translation i.rules i.live i.arrangement i.planned i.held c.args.self.now c.self.view_is c.requires.idle c.self.invariant.1
 
-plan_now : (c : goal.After-drop-parts-2)
+plan_now : (c : goal.After-drop-plan-3)
     → IsHeldPlan c.self.inside.placement c.self.inside.translation c.self.inside.rules c.reserve.new.self c.self.inside.live c.plan_writes.new.live c.self.inside.arrangement c.plan_writes.new.arrangement
     c.args.batch.now (held_now c)
 plan_now c =

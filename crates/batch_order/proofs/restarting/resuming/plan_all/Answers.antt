@@ -39,7 +39,7 @@ plan_rest-requires-clause-plannable g c =
     let state : State = device_state (g.D.Writable.view c.args.device.now) in
     let was = c.args.standing.now in
     let begun = c.plan_words.new.plan in
-    let plan : Plan = record { writes = c.plan_twin.new.writes; undo = begun.undo; words = begun.words; most = begun.most; span = begun.span; most_parts = begun.most_parts } in
+    let plan : Plan = record { writes = c.plan_twin.new.writes; undo = begun.undo; words = begun.words; most = begun.most; span = begun.span; most_parts = begun.most_parts; sides = begun.sides } in
     first_plannable c.args.mode (bits_of c.args.translation.now) c.args.rules.now.rules c.args.batch.now state c.args.shown.now was.live was.arrangement c.requires.stopped c.requires.read plan
     (first_planned c.args.translation.now c.args.mode c.args.rules.now.rules c.args.batch.now state c.args.shown.now.stage.twin begun plan c.requires.mode c.requires.stopped.can c.requires.tables
     c.in_ok-bits.ensures.writes c.in_ok-bits.ensures.words (c.plan_words.ensures.most ∙ c.new-plan.ensures.most) (c.plan_words.ensures.span ∙ c.new-plan.ensures.span)
@@ -88,7 +88,7 @@ returns-clause-planned g c =
     let shown = c.args.shown.now in
     let left = c.in_ok-left.left in
     let begun = c.plan_words.new.plan in
-    let plan : Plan = record { writes = c.plan_twin.new.writes; undo = begun.undo; words = begun.words; most = begun.most; span = begun.span; most_parts = begun.most_parts } in
+    let plan : Plan = record { writes = c.plan_twin.new.writes; undo = begun.undo; words = begun.words; most = begun.most; span = begun.span; most_parts = begun.most_parts; sides = begun.sides } in
     let arranged : c.erase_all.new.arrangement ≡ erased_slots c.plan_rest.new.arrangement left.erased.items = rw c.deref.ensures.value at c.erase_all.ensures in
     let rest : Rest = record { plan = c.plan_rest.new.plan; bits = c.in_ok-bits.bits; left = left; ids = c.in_ok-ids.ids } in
     all_planned_on c.args.mode (bits_of c.args.translation.now) c.args.rules.now.rules c.args.batch.now state shown was.live was.arrangement c.requires.stopped c.requires.read

@@ -1,0 +1,10 @@
+use Rattle.std.proofs.Common.{arith}
+use Rattle.counted_blocks.proofs.Changes.{read-at}
+use Rattle.counted_blocks.proofs.CountedBlocks.at.Goals as goal
+
+pub returns : goal.returns
+returns c =
+    let spot = c.find-spot.ensures.spot in
+    let from = spot.from in
+    let start = spot.start_is in
+    read-at c.args.self.now.blocks c.find-spot.result.block _ c.args.place c.item.result spot.within (omega arith) c.item.ensures
