@@ -12,10 +12,11 @@ ghost use Rattle.driver_verify.specs.Verify.{VerifiesBy};
 
 use crate::DriverVerdict;
 use driver_trace::{Compared, read_driver_line};
-use line_judge::{LineFault, LineJudge};
+use line_judge::LineFault;
 use script_lines::{Line, LineFault as TextFault, Lines, Source};
 use std::alloc::Global;
 use trace_file::TraceFault;
+use two_judges::DriverJudge;
 
 /// Judges a driver's trace, which the source gives, where answers are so compared. The answer is `Yes` only where the input
 /// is a trace that was read to its end and each line of it is hitless for every key; `No` only where the packet that it names
@@ -28,7 +29,7 @@ pub fn verify_driver<S: Source>(alloc: Global, by: Compared, source: &mut S) -> 
         × VerifiesBy by pieces result }
     ensures cause { IsCounted (result ≡ DriverVerdict.Read) (S.faults source.old) (S.faults source.new) }
 {
-    let mut judge = match LineJudge::new(alloc, by) {
+    let mut judge = match DriverJudge::new(alloc, by) {
         Ok(judge) => judge,
         Err(_) => return DriverVerdict::Memory,
     };
@@ -51,9 +52,9 @@ fn round<S: Source>(
     alloc: Global,
     lines: &mut Lines,
     number: u64,
-    judge: LineJudge,
+    judge: DriverJudge,
     source: &mut S,
-) -> Result<LineJudge, DriverVerdict>
+) -> Result<DriverJudge, DriverVerdict>
     requires { IsAnew lines.old }
     ensures anew { IfOk result (λ _. IsAnew lines.new) }
     ensures gives { (pieces : List (List ℕ)) × GivesPieces (S.given source.old) (S.given source.new) (S.left source.old) (S.left source.new) pieces
@@ -77,10 +78,10 @@ fn round<S: Source>(
 /// Judges a line, which has this number. Err: the judgement ends at it.
 fn judge_line(
     alloc: Global,
-    judge: LineJudge,
+    judge: DriverJudge,
     line: &Line,
     number: u64,
-) -> Result<LineJudge, DriverVerdict>
+) -> Result<DriverJudge, DriverVerdict>
     requires { line.now.len ≤ 512 }
     ensures passed { IfOk result (λ next. PassesLine judge (numbered line.now).text next) }
     ensures ended { IfErr result (λ answer. EndsAtLine judge (numbered line.now).text number answer) }
@@ -108,7 +109,7 @@ fn judge_line(
 }
 
 /// What is told where the input ends before a line of this number.
-fn at_end(judge: &LineJudge, number: u64) -> DriverVerdict
+fn at_end(judge: &DriverJudge, number: u64) -> DriverVerdict
     ensures { EndsAtEnd judge.now number result }
 {
     match judge.end() {

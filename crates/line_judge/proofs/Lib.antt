@@ -2,10 +2,12 @@ pub mod Blocks
 pub mod Copied
 pub mod EndedSets
 pub mod Followed
+pub mod FollowedLines
 pub mod Judged
 pub mod JudgedEvents
 pub mod KeyCubes
 pub mod LinesTaken
 pub mod Meant
+pub mod MeantAlone
 pub mod Outcomes
 pub mod PlacesBehind

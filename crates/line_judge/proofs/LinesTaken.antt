@@ -152,7 +152,7 @@ command_right before command next there right sound =
       ahead = tt;
     }
 
-sound_before : (before : Track) (line : DriverLine) → driver_kind line ≡ Changes → MayBeTaken before line → IsSound before.rules before.batch
+pub sound_before : (before : Track) (line : DriverLine) → driver_kind line ≡ Changes → MayBeTaken before line → IsSound before.rules before.batch
 sound_before before line kind may =
     let n = some_place (place_by before.slots before.place (driver_kind line)) may.stands in
     let at = command_at before.by before.slots before.place n.0 (known_of before) (subst (λ k. place_by before.slots before.place k ≡ Some n.0) kind n.1) may.right.shown in

@@ -22,7 +22,7 @@ module _ (rules : List Rule) (command : Command) where
   none_or None = refl
   none_or (Some fault) = refl
 
-  fault_is : (batch : List Command) → IsSound rules batch → batch_fault_after rules [] (batch ++ command ∷ []) ≡ command_fault rules batch command
+  pub fault_is : (batch : List Command) → IsSound rules batch → batch_fault_after rules [] (batch ++ command ∷ []) ≡ command_fault rules batch command
   fault_is batch sound = fault_last [] batch sound ∙ none_or (command_fault rules batch command)
 
   pub meant : (batch : List Command) → IsSound rules batch → IsSound rules (batch ++ command ∷ []) → is_none (command_fault rules batch command) ≡ true

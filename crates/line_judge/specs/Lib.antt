@@ -1,3 +1,4 @@
 pub mod Followed
 pub mod Kinds
+pub mod Meant
 pub mod Tracked

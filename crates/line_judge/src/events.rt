@@ -30,7 +30,20 @@ impl Track {
     {
         match self.ahead.take() {
             Some(set) => Ok(set),
-            None => made_ahead(self.alloc, &self.rules, &self.batch),
+            None => self.make_ahead(),
+        }
+    }
+
+    /// It is made, with its entries, and with those of the set.
+    fn make_ahead(&mut self) -> Result<RuleView, LineFault>
+        requires { IsSound self.old.rules self.old.batch }
+        ensures set { IfOk result (λ set. set ≡ set_after self.old.rules self.old.batch) }
+        ensures same { self.new ≡ self.old }
+        ensures memory { IfErr result (λ fault. fault ≡ LineFault.Memory) }
+    {
+        match self.rules.complete(self.alloc) {
+            Ok(()) => made_ahead(self.alloc, &self.rules, &self.batch),
+            Err(AllocError) => Err(LineFault::Memory),
         }
     }
 

@@ -8,14 +8,17 @@
 //! # Decided
 //! - **A judge that doesn't take a line is spent**, so `take` takes it by value: what a line behind the first leak does isn't
 //!   told.
-//! - **A commit's batch is checked with each of its commands**, so that a command that can't be meant is told at its own
-//!   line. The time of it goes by the square of their number, of which there are 12,288 at most.
+//! - **A command is checked with its own line**, so that one that can't be meant is told there: by the set alone where no command
+//!   ahead of it names its priority, and else the whole batch is checked anew. The time of the walks over a batch goes by the
+//!   square of its commands, of which there are 12,288 at most.
 //! - **More writes or commits than a `u64` counts are told as want of memory.**
 #![tactic(auto)]
 
+mod commands;
 mod cubes;
 mod ends;
 mod events;
+mod follow;
 mod judgements;
 mod kinds;
 mod line_judge;

@@ -1,6 +1,7 @@
 //! The judge of lines.
 
 ghost use Rattle.std.specs.Prelude.{◌≡◌, IfOk, IfErr, IfSome, IsNone};
+ghost use Rattle.driver_trace.specs.Judged.{IsHitlessLine};
 ghost use Rattle.line_judge.specs.Followed.{RefusesLine, Takes, nothing_followed};
 
 use crate::LineFault;
@@ -57,6 +58,27 @@ impl LineJudge {
         match place_behind(track.slots, track.place, kind) {
             None => Err(LineFault::Misplaced),
             Some(next) => match track.take(line) {
+                Ok(()) => {
+                    track.place = next;
+                    Ok(LineJudge { track })
+                }
+                Err(fault) => Err(fault),
+            },
+        }
+    }
+
+    /// Takes the next line, which is hitless, where it may stand, and looks at no packet. `Misplaced` comes only where no trace
+    /// has it there; a move and an end that was taken back are judged. Where the line isn't taken the judge is spent.
+    pub fn follow(self, line: &DriverLine) -> Result<LineJudge, LineFault>
+        requires { IsHitlessLine self.by self.now line.now }
+        ensures taken { IfOk result (λ next. Takes self line.now next) }
+        ensures refused { IfErr result (λ fault. RefusesLine self line.now fault) }
+    {
+        let mut track = self.track;
+        let kind = kind_of(line);
+        match place_behind(track.slots, track.place, kind) {
+            None => Err(LineFault::Misplaced),
+            Some(next) => match track.follow(line) {
                 Ok(()) => {
                     track.place = next;
                     Ok(LineJudge { track })

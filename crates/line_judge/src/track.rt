@@ -8,6 +8,7 @@ ghost use Rattle.driver_trace.specs.Known.{unknown};
 ghost use Rattle.line_judge.specs.Tracked.{IsPushFault, IsRightTrack, MayBeTaken, StopsAt, TakesLine, known_of};
 
 use crate::LineFault;
+use crate::commands::{is_last_meant, is_unnamed};
 use driver_trace::{Compared, DriverLine};
 use rule_model::{IpVersion, Rank, Rule};
 use rule_store::{Batch, Command, Store};
@@ -75,7 +76,7 @@ impl Track {
     }
 
     /// A line that our own traces have too.
-    fn take_common(&mut self, line: &TraceLine) -> Result<(), LineFault>
+    pub(crate) fn take_common(&mut self, line: &TraceLine) -> Result<(), LineFault>
         requires { MayBeTaken self.old (driver.Common line.now) }
         ensures taken { OnOk result (TakesLine self.old (driver.Common line.now) self.new) }
         ensures stopped { IfErr result (StopsAt self.old (driver.Common line.now)) }
@@ -183,19 +184,22 @@ impl Track {
 
     /// One command more, which has to be one that can be meant. There is room for it, by its place.
     fn push(&mut self, command: Command) -> Result<(), LineFault>
+        requires { IsSound self.old.rules self.old.batch }
         ensures pushed { OnOk result (IsSound self.old.rules (self.old.batch ++ command ∷ [])
             × (self.new ≡ record self.old { batch = self.old.batch ++ command ∷ []; ahead = None })) }
         ensures stopped { IfErr result (IsPushFault self.old command) }
     {
         self.ahead = None;
+        let unnamed = is_unnamed(&self.batch, command.priority());
         match self.batch.push_settled(command) {
             Ok(()) => {}
             Err(_) => return Err(LineFault::Memory),
         }
         let rules = self.rules.rules();
-        match rules.check(&self.batch) {
-            Ok(()) => Ok(()),
-            Err(_) => Err(LineFault::Misplaced),
+        if is_last_meant(rules, &self.batch, &command, unnamed) {
+            Ok(())
+        } else {
+            Err(LineFault::Misplaced)
         }
     }
 

@@ -15,7 +15,7 @@ ghost use Rattle.write_judge.specs.Judging.{IsJudgedIn};
 
 use crate::{Judged, RuleView, Watched};
 use driver_trace::{Asked, Compared, Leak};
-use leak_search::{AnswerLists, Question, Sought, agree, narrowed, narrowed_slots, search};
+use leak_search::{AnswerLists, Question, Sought, agree, narrowed_slots, search};
 use rule_model::{Key, Rank, key_fields};
 use std::alloc::{AllocError, Global};
 use word_cubes::Cube;
@@ -62,11 +62,9 @@ fn lists_in(
     ensures new { IfOk result (λ lists. AnswerAlike cube.now lists.new.items (rule_entries new.now)) }
 {
     let held = device.held();
-    let old_entries = old.entries();
-    let new_entries = new.entries();
     let from_device = narrowed_slots(alloc, held, cube)?;
-    let from_old = narrowed(alloc, old_entries, cube)?;
-    let from_new = narrowed(alloc, new_entries, cube)?;
+    let from_old = old.narrowed(alloc, cube)?;
+    let from_new = new.narrowed(alloc, cube)?;
     Ok(AnswerLists {
         device: from_device,
         old: from_old,

@@ -1,5 +1,8 @@
+use Rattle.std.proofs.Common.{refl}
 use Rattle.std.proofs.lemmas.Result.{on_ok_weaker, IfErr-weaker}
-use Rattle.line_judge.proofs.LinesTaken.{set_stops, set_takes}
+use Rattle.trace_file.specs.declared.TraceLine.TheVariants as lines
+use Rattle.driver_trace.specs.declared.DriverLine.TheVariants as driver
+use Rattle.line_judge.proofs.LinesTaken.{set_stops, set_takes, sound_before}
 use Rattle.line_judge.proofs.track.Track.set.Goals as goal
 
 pub returns-clause-taken : goal.returns-clause-taken
@@ -7,3 +10,6 @@ returns-clause-taken c = on_ok_weaker c.push.result (λ is. set_takes c.args.sel
 
 pub returns-clause-stopped : goal.returns-clause-stopped
 returns-clause-stopped c = IfErr-weaker c.push.result _ _ (λ fault is. set_stops c.args.self.now c.args.priority c.args.answer fault c.requires is) c.push.ensures.stopped
+
+pub push-requires : goal.push-requires
+push-requires c = sound_before c.args.self.now (driver.Common (lines.Set c.args.priority c.args.answer)) refl c.requires

@@ -13,4 +13,4 @@ pub returns-in-Some-clause-same : goal.returns-in-Some-clause-same
 returns-in-Some-clause-same c = ap (λ (rest : Option (List Rule)). let t : Track = record c.args.self.now { ahead = rest } in t) c.take.ensures.after
 
 pub returns-in-None-clause-same : goal.returns-in-None-clause-same
-returns-in-None-clause-same c = ap (λ (rest : Option (List Rule)). let t : Track = record c.args.self.now { ahead = rest } in t) c.take.ensures.after
+returns-in-None-clause-same c = c.make_ahead.ensures.same ∙ ap (λ (rest : Option (List Rule)). let t : Track = record c.args.self.now { ahead = rest } in t) c.take.ensures.after
