@@ -15,7 +15,7 @@ use Rattle.ip_routes.specs.declared.attributes.Why.TheVariants as why
 use Rattle.ip_routes.specs.declared.reading.Expects.{Expects}
 use Rattle.ip_routes.specs.declared.reading.Expects.TheVariants as expects
 use Rattle.ip_routes.specs.Words.{is_another_kind, kind_of, attribute_in}
-use Rattle.ip_routes.specs.Reading.{RouteReading, prefix_text, every_address, missing_length, with_block, read_prefix, with_kind, read_first, put_bytes, put_hop, spaced, expecting, behind_value, read_hop_value, read_as, step_as, step, way_by, way_of, end_as, ended_by, goes_on, read_words}
+use Rattle.ip_routes.specs.Reading.{RouteReading, prefix_text, every_address, missing_length, with_block, read_prefix, with_kind, read_first, put_bytes, put_hop, spaced, expecting, behind_via, read_address, read_as, step_as, step, way_by, way_of, end_as, ended_by, goes_on, read_words}
 
 -- ---- a bound
 
@@ -143,8 +143,8 @@ hop-full view seen word view_is some full =
     bytes-over (record seen { hop = seen.hop ++ 32 ∷ [] }) (record seen { hop = seen.hop ++ 32 ∷ [] }) word refl over
     ∙ ap (λ h. put_bytes (record seen { hop = h }) word) (spaced-some seen.hop some)
 
-pub value-read : (seen held : RouteReading) (word : List ℕ) (next : Expects) (r : Result RouteReading Why) → next ≡ behind_value word → held ≡ expecting next seen → r ≡ put_hop held word → r ≡ read_hop_value seen word
-value-read seen held word next r next_is held_is is =
+pub address-read : (seen held : RouteReading) (word : List ℕ) (next : Expects) (r : Result RouteReading Why) → next ≡ behind_via word → held ≡ expecting next seen → r ≡ put_hop held word → r ≡ read_address seen word
+address-read seen held word next r next_is held_is is =
     is ∙ ap (λ h. put_hop h word) held_is ∙ ap (λ e. put_hop (expecting e seen) word) next_is
 
 -- ---- a word by what it is

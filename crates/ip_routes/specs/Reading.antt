@@ -96,17 +96,24 @@ put_hop seen word = put_bytes (record seen { hop = spaced seen.hop }) word
 abbrev pub expecting : Expects → RouteReading → RouteReading
 expecting next seen = record seen { expects = next }
 
--- a part of the next hop: behind the name of a version of IP one more is to come
-abbrev pub behind_value : List ℕ → Expects
-behind_value word = if is_family word then expects.HopValue else expects.Attribute
-
+-- a part of the next hop
 abbrev pub read_hop_value : RouteReading → List ℕ → Result RouteReading Why
-read_hop_value seen word = put_hop (expecting (behind_value word) seen) word
+read_hop_value seen word = put_hop (expecting expects.Attribute seen) word
+
+-- behind `via` stands an address, or the name of a version of IP and an address
+abbrev pub behind_via : List ℕ → Expects
+behind_via word = if is_family word then expects.HopValue else expects.Attribute
+
+abbrev pub read_address : RouteReading → List ℕ → Result RouteReading Why
+read_address seen word = put_hop (expecting (behind_via word) seen) word
+
+abbrev pub behind_part : List ℕ → Expects
+behind_part word = if bytes_eq word (codes "via") then expects.Address else expects.HopValue
 
 -- a word that says what it is
 abbrev pub read_as : RouteReading → List ℕ → Attribute → Result RouteReading Why
 read_as seen word attribute.Hop = put_hop seen word
-read_as seen word attribute.HopValue = put_hop (expecting expects.HopValue seen) word
+read_as seen word attribute.HopValue = put_hop (expecting (behind_part word) seen) word
 read_as seen word attribute.Flag = Ok seen
 read_as seen word attribute.Skipped = Ok (expecting expects.Skipped seen)
 read_as seen word attribute.Metric = Ok (expecting expects.Metric seen)
@@ -122,6 +129,7 @@ abbrev pub step_as : IpVersion → RouteReading → List ℕ → Expects → Res
 step_as version seen word expects.Kind = read_first version seen word
 step_as version seen word expects.Prefix = read_prefix version seen word
 step_as version seen word expects.Attribute = read_as seen word (attribute_in version seen.gone word)
+step_as version seen word expects.Address = read_address seen word
 step_as version seen word expects.HopValue = read_hop_value seen word
 step_as version seen word expects.Skipped = Ok (expecting expects.Attribute seen)
 step_as version seen word expects.Metric = read_metric seen (result_of word)
@@ -141,6 +149,7 @@ abbrev pub end_as : RouteReading → Expects → Result (Unit {0}) Why
 end_as seen expects.Kind = Err why.Prefix
 end_as seen expects.Prefix = Err why.Prefix
 end_as seen expects.Attribute = hop_of seen.kind seen.hop
+end_as seen expects.Address = Err why.Value
 end_as seen expects.HopValue = Err why.Value
 end_as seen expects.Skipped = Err why.Value
 end_as seen expects.Metric = Err why.Value

@@ -4,7 +4,7 @@ ghost use Rattle.std.specs.Prelude.{◌≡◌, ◌+◌, ◌++◌, ◌==◌, [], 
 ghost use Rattle.line_words.specs.Kinds.{result_of};
 ghost use Rattle.ip_routes.specs.Words.{attribute_in, gap_words};
 ghost use Rattle.line_words.specs.Notations.{notation_for};
-ghost use Rattle.ip_routes.specs.Reading.{behind_value, end_as, every_address, expecting, has_slash, hop_of, missing_length, prefix_text, put_bytes, put_hop, read_as, read_first, read_hop_value, read_metric, read_prefix, read_words, reading_of, said_or, step, way_of, whole_length, with_block};
+ghost use Rattle.ip_routes.specs.Reading.{behind_part, behind_via, end_as, every_address, expecting, has_slash, hop_of, missing_length, prefix_text, put_bytes, put_hop, read_address, read_as, read_first, read_hop_value, read_metric, read_prefix, read_words, reading_of, said_or, step, way_of, whole_length, with_block};
 
 use crate::attributes::{
     Attribute, RouteKind, Why, attribute_in, is_another_kind, is_family, is_named, kind_of, why_of,
@@ -30,6 +30,8 @@ pub(crate) enum Expects {
     Prefix,
     /// One that says what it is.
     Attribute,
+    /// What stands behind `via`: an address, or the version of IP of one that comes next.
+    Address,
     /// A part of the next hop.
     HopValue,
     /// A word without a part in the answer.
@@ -185,6 +187,7 @@ impl Reading {
             Expects::Kind => self.read_first(word, version),
             Expects::Prefix => self.read_prefix(word, version),
             Expects::Attribute => self.read_attribute(word, version),
+            Expects::Address => self.read_address(word),
             Expects::HopValue => self.read_hop_value(word),
             Expects::Skipped => {
                 self.expect(Expects::Attribute);
@@ -251,7 +254,7 @@ impl Reading {
         match attribute_in(version, self.gone(), word) {
             Attribute::Hop => self.put_hop(word),
             Attribute::HopValue => {
-                self.expect(Expects::HopValue);
+                self.expect(behind_part(word));
                 self.put_hop(word)
             }
             Attribute::Flag => Ok(()),
@@ -267,11 +270,19 @@ impl Reading {
         }
     }
 
-    /// Reads a part of the next hop: behind the name of a version of IP one more is to come.
+    /// Reads what stands behind `via`: behind the name of a version of IP an address is to come.
+    fn read_address(&mut self, word: &[u8]) -> Result<(), Why>
+        ensures { said_or result self.new ≡ read_address self.old word.now }
+    {
+        self.expect(behind_via(word));
+        self.put_hop(word)
+    }
+
+    /// Reads a part of the next hop.
     fn read_hop_value(&mut self, word: &[u8]) -> Result<(), Why>
         ensures { said_or result self.new ≡ read_hop_value self.old word.now }
     {
-        self.expect(behind_value(word));
+        self.expect(Expects::Attribute);
         self.put_hop(word)
     }
 
@@ -328,6 +339,7 @@ impl Reading {
             Expects::Kind => Err(Why::Prefix),
             Expects::Prefix => Err(Why::Prefix),
             Expects::Attribute => self.end_hop(),
+            Expects::Address => Err(Why::Value),
             Expects::HopValue => Err(Why::Value),
             Expects::Skipped => Err(Why::Value),
             Expects::Metric => Err(Why::Value),
@@ -357,9 +369,19 @@ impl Reading {
     }
 }
 
-/// What is to come behind a part of the next hop.
-fn behind_value(word: &[u8]) -> Expects
-    ensures { result ≡ behind_value word.now }
+/// What is to come behind a word that begins a part of the next hop.
+fn behind_part(word: &[u8]) -> Expects
+    ensures { result ≡ behind_part word.now }
+{
+    if is_named(word, b"via") {
+        return Expects::Address;
+    }
+    Expects::HopValue
+}
+
+/// What is to come behind the word behind `via`. A device may have the name of a version of IP; an address may not.
+fn behind_via(word: &[u8]) -> Expects
+    ensures { result ≡ behind_via word.now }
 {
     if is_family(word) {
         return Expects::HopValue;

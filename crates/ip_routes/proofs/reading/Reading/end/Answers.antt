@@ -11,6 +11,9 @@ returns-in-Prefix c = ap (λ e. end_as c.args.self.now e) c.in-Prefix.ensures
 pub returns-in-Attribute : goal.returns-in-Attribute
 returns-in-Attribute c = c.end_hop.ensures ∙ ap (λ e. end_as c.args.self.now e) c.in-Attribute.ensures
 
+pub returns-in-Address : goal.returns-in-Address
+returns-in-Address c = ap (λ e. end_as c.args.self.now e) c.in-Address.ensures
+
 pub returns-in-HopValue : goal.returns-in-HopValue
 returns-in-HopValue c = ap (λ e. end_as c.args.self.now e) c.in-HopValue.ensures
 

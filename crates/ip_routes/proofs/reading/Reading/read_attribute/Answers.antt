@@ -1,6 +1,6 @@
 use Rattle.std.proofs.Common.{refl, ap, ◌∙◌, Ok, Err}
 use Rattle.ip_routes.specs.declared.attributes.Attribute.TheVariants as attribute
-use Rattle.ip_routes.specs.Reading.{put_hop}
+use Rattle.ip_routes.specs.Reading.{expecting, put_hop}
 use Rattle.ip_routes.proofs.Steps.{as-read}
 use Rattle.ip_routes.proofs.reading.Reading.read_attribute.Goals as goal
 
@@ -8,7 +8,7 @@ pub returns-in-Hop : goal.returns-in-Hop
 returns-in-Hop c = as-read c.args.version c.args.self.now c.args.word.now _ attribute.Hop _ c.gone.ensures c.in-Hop.ensures c.put_hop.ensures
 
 pub returns-in-HopValue : goal.returns-in-HopValue
-returns-in-HopValue c = as-read c.args.version c.args.self.now c.args.word.now _ attribute.HopValue _ c.gone.ensures c.in-HopValue.ensures (c.put_hop-in-HopValue.ensures ∙ ap (λ s. put_hop s c.args.word.now) c.expect.ensures)
+returns-in-HopValue c = as-read c.args.version c.args.self.now c.args.word.now _ attribute.HopValue _ c.gone.ensures c.in-HopValue.ensures (c.put_hop-in-HopValue.ensures ∙ ap (λ s. put_hop s c.args.word.now) (c.expect.ensures ∙ ap (λ e. expecting e c.args.self.now) c.behind_part.ensures))
 
 pub returns-in-Flag : goal.returns-in-Flag
 returns-in-Flag c = as-read c.args.version c.args.self.now c.args.word.now _ attribute.Flag _ c.gone.ensures c.in-Flag.ensures refl

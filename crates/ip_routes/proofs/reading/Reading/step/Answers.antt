@@ -12,6 +12,9 @@ returns-in-Prefix c = step-by c.args.version c.args.self.now c.args.word.now exp
 pub returns-in-Attribute : goal.returns-in-Attribute
 returns-in-Attribute c = step-by c.args.version c.args.self.now c.args.word.now expects.Attribute _ c.in-Attribute.ensures c.read_attribute.ensures
 
+pub returns-in-Address : goal.returns-in-Address
+returns-in-Address c = step-by c.args.version c.args.self.now c.args.word.now expects.Address _ c.in-Address.ensures c.read_address.ensures
+
 pub returns-in-HopValue : goal.returns-in-HopValue
 returns-in-HopValue c = step-by c.args.version c.args.self.now c.args.word.now expects.HopValue _ c.in-HopValue.ensures c.read_hop_value.ensures
 
