@@ -7,7 +7,7 @@ _tcam() {
     --placement) words="middle rank ends" ;;
     --removals) words="first last" ;;
     --slots | --depth | --commit | --commits) ;; # a number, or two
-    import) words="ip-routes ip-monitor --version --leave-out --help" ;;
+    import) words="ip-routes ip-monitor ip-json --version --leave-out --help" ;;
     tcam | */tcam) words="route acl route6 acl6 router router6 gen verify draw explain import judge --help --version" ;;
     explain) words="route acl route6 acl6 router router6 gen verify draw import judge --help" ;;
     *)

@@ -12,10 +12,11 @@ use Rattle.import_lines.specs.Imported.{ImportsBy}
 use Rattle.import_lines.specs.Writes.{ClosesBy}
 use Rattle.ip_routes.specs.Telling as routes
 use Rattle.ip_monitor.specs.Telling as events
+use Rattle.json_routes.specs.Texts.{JsonBy, Untold}
 use Rattle.import_cli.specs.declared.asked.Asked.{Asked}
 use Rattle.import_cli.specs.declared.asked.Asked.TheVariants as asked
 use Rattle.import_cli.specs.declared.asked.Format.{Format}
-use Rattle.import_cli.specs.declared.asked.Format.TheVariants.{IpRoutes, IpMonitor}
+use Rattle.import_cli.specs.declared.asked.Format.TheVariants.{IpRoutes, IpMonitor, IpJson}
 use Rattle.import_cli.specs.CommandLine.{ImportJob, NoJob, Tells, Imports, asked_by}
 use Rattle.import_cli.specs.OwnTexts.{import_help}
 use Rattle.import_cli.specs.Jobs.{no_events, no_routes, CarriesOut}
@@ -39,6 +40,10 @@ told-unread result last faults (inl is) other =
     record { later = omega arith; once = omega arith; failed = λ same. absurd (other (sym is ∙ same)); stayed = λ _. refl }
 told-unread result last faults (inr is) other =
     record { later = omega arith; once = omega arith; failed = λ same. absurd (let bad : status.WriteFault ≡ status.ReadFault = sym is ∙ same in cc); stayed = λ _. refl }
+
+pub carries-json : (format : Format) (version : IpVersion) (leave_out : Bool) (pieces : List (List ℕ)) (answer : Status) (o n : Option (List ℕ)) → format ≡ IpJson
+    → JsonBy leave_out (no_routes version) pieces answer o n → CarriesOut (Imports format version leave_out) pieces answer o n
+carries-json format version leave_out pieces answer o n named by = subst (λ f. CarriesOut (Imports f version leave_out) pieces answer o n) (sym named) by
 
 -- what an answer asks for
 pub carried-as : (a b : Asked) (pieces : List (List ℕ)) (answer : Status) (o n : Option (List ℕ)) → a ≡ b → CarriesOut (asked_by b) pieces answer o n → CarriesOut (asked_by a) pieces answer o n
@@ -74,3 +79,4 @@ wanting NoJob o = (refl, inr (refl, Appends-nil o))
 wanting (Tells text) o = (refl, inr (refl, Appends-nil o))
 wanting (Imports IpRoutes version leave_out) o = none-told (telling routes.route_told routes.route_after routes.route_closing) leave_out (no_routes version) o
 wanting (Imports IpMonitor version leave_out) o = none-told (telling events.monitor_told events.monitor_after events.monitor_closing) leave_out (no_events version) o
+wanting (Imports IpJson version leave_out) o = Untold (inr refl) (Appends-nil o)

@@ -14,7 +14,7 @@ use Rattle.option_words.specs.Options.{has_text, text_of}
 use Rattle.import_cli.specs.declared.asked.Asked.{Asked}
 use Rattle.import_cli.specs.declared.asked.Asked.TheVariants as asked
 use Rattle.import_cli.specs.declared.asked.Format.{Format}
-use Rattle.import_cli.specs.declared.asked.Format.TheVariants.{IpRoutes, IpMonitor}
+use Rattle.import_cli.specs.declared.asked.Format.TheVariants.{IpRoutes, IpMonitor, IpJson}
 use Rattle.import_cli.specs.OwnTexts.{import_help}
 
 -- What words ask for: nothing, a text of the product, or an import of a format and a version of IP, lines left out or not.
@@ -52,6 +52,7 @@ abbrev pub format_in : Text → Option Format
 format_in name =
     if bytes_eq name (codes "ip-routes") then Some IpRoutes
     else if bytes_eq name (codes "ip-monitor") then Some IpMonitor
+    else if bytes_eq name (codes "ip-json") then Some IpJson
     else None
 
 abbrev pub version_in : Text → Option IpVersion

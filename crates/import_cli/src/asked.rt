@@ -18,6 +18,8 @@ pub enum Format {
     IpRoutes,
     /// The lines of `ip -o monitor route`.
     IpMonitor,
+    /// The array of `ip -j route show`.
+    IpJson,
 }
 
 /// What a command line asks for.
@@ -137,6 +139,7 @@ fn format_named(name: &str) -> Option<Format>
     match name {
         "ip-routes" => Some(Format::IpRoutes),
         "ip-monitor" => Some(Format::IpMonitor),
+        "ip-json" => Some(Format::IpJson),
         _ => None,
     }
 }

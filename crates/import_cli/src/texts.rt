@@ -10,25 +10,28 @@ tcam import: reads what another program prints, and writes a script.
     ip -o route show | tcam import ip-routes | tcam route
     ip -6 -o route show | tcam import ip-routes --version 6 | tcam route6
     ip -o monitor route | tcam import ip-monitor | tcam route --trace
+    ip -j route show | tcam import ip-json | tcam route
 
     tcam import FORMAT [--version V] [--leave-out]
 
-FORMAT is ip-routes: the lines of ip -o route show, of one table; or ip-monitor:
-those of ip -o monitor route, each a commit. Where packets of a route go gets a
-number, which a comment tells before its first use.
+FORMAT is ip-routes: the lines of ip -o route show, of one table; ip-monitor:
+those of ip -o monitor route, each a commit; or ip-json: the array of
+ip -j route show, an item a route. Where packets of a route go gets a number,
+which a comment tells before its first use.
 
-Each line is said, or the script ends at it: its last line has the number of
-the line, why it can't be said, and the word. No commit follows, and no
+Each line, or item, is said, or the script ends at it: its last line has the
+number of it, why it can't be said, and the word. No commit follows, and no
 reader of scripts takes its last line for a command.
 
 Options:
     --version V     the version of IP, 4 or 6, by default 4
-    --leave-out     a line that can't be said is a comment, and how many of
-                    them there are stands at the end
+    --leave-out     a line or an item that can't be said is a comment, and how
+                    many of them there are stands at the end
 
 Exit status:
     0   the input was read to its end
-    2   a line can't be said, is too long or has a bad byte
+    2   a line or an item can't be said, a line is too long or has a bad byte,
+        or the input is no array
     3   standard input could not be read
     4   standard output could not be written
     6   memory is wanting

@@ -11,6 +11,7 @@ use crate::texts::{IMPORT_HELP, USAGE};
 use import_lines::{import, write_last};
 use ip_monitor::IpMonitor;
 use ip_routes::IpRoutes;
+use json_routes::import_json;
 use option_words::WordsFault;
 use rule_model::IpVersion;
 use script_lines::{Sink, Source};
@@ -94,5 +95,6 @@ fn carry_import<S: Source, K: Sink>(
                 sink,
             )
         }
+        Format::IpJson => import_json(alloc, version, leave_out, source, sink),
     }
 }

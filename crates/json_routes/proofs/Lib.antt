@@ -1,0 +1,4 @@
+mod Told
+mod Each
+mod Scripts
+mod Texts
