@@ -11,6 +11,7 @@ pub mod Carried
 pub mod InFlight
 pub mod Fates
 pub mod Running
+pub mod Making
 pub mod Early
 pub mod Unfinished
 pub mod Pausing

@@ -7,7 +7,8 @@ use Rattle.replay.specs.declared.steps.Ended.{Ended}
 use Rattle.replay.specs.declared.RunFault.{RunFault}
 use Rattle.replay.specs.Fates.{IsBefore, IsUpTo, IsWithinCrash}
 use Rattle.replay.specs.Carried.{CutsEffects}
-use Rattle.replay.specs.Running.{Watching, Snapshot, HasCome, MakesAll, MakesSome, StopsAtLine, StopsAtWrite, FailsBy, TellsActions, effects_on}
+use Rattle.replay.specs.Running.{Watching, MakesSome}
+use Rattle.replay.specs.Making.{Snapshot, HasCome, MakesAll, StopsAtLine, StopsAtWrite, FailsBy, TellsActions, effects_on}
 
 -- All actions up to the crash are made and told, and more writes are left.
 pub record Pauses (Seen : Type 0) (after : ℕ) (watch : Watching) (device_slots : ℕ) (begun now : Snapshot) : Type 0 where

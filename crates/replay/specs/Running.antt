@@ -1,6 +1,5 @@
 -- What a run keeps, and where it stands by that.
 use Rattle.std.specs.Prelude.{◌≡◌, ◌≢◌, ◌⊎◌, ℕ, ◌+◌, ◌-◌, ◌*◌, nat_lt, nat_le, ◌&&◌, map, option_map, ◌^◌, ◌<◌, ◌≤◌, ◌++◌, ◌∷◌, Bool, true, false, Option, None, Some, IsSome, IfSome, Result, Ok, Err, List, [], length, take, codes}
-use Rattle.std.specs.Io.KnownBytes.{Appends}
 use Rattle.std.specs.List.{AllByRecursion}
 use Rattle.slot_order.specs.Order.{most_slots}
 use Rattle.rule_model.specs.declared.Key.{Key}
@@ -12,7 +11,7 @@ use Rattle.rule_store.specs.Verdict.{Verdict, Accepted, verdict}
 use Rattle.tcam_device.specs.declared.Write.{Write}
 use Rattle.tcam_device.specs.declared.Action.{Action}
 use Rattle.tcam_device.specs.declared.Action.TheVariants.{Written}
-use Rattle.tcam_device.specs.State.{State, Shows, replay, state_after, on_device}
+use Rattle.tcam_device.specs.State.{State, Shows, state_after, on_device}
 use Rattle.tcam_device.specs.Flight.{Flight, writes_in}
 use Rattle.commit_writes.specs.declared.Done.{Done}
 use Rattle.commit_writes.specs.Routes.{IsRoute}
@@ -21,7 +20,7 @@ use Rattle.commit_writes.specs.Undo.{undo_writes}
 use Rattle.batch_order.specs.declared.Placement.{Placement}
 use Rattle.batch_order.specs.Managed.{Managed, HeldCommit, Holds, OnlyChangesRoutes, Way, fresh}
 use Rattle.batch_order.specs.Managed.Way.{On, Back}
-use Rattle.batch_order.specs.Steps.{next_of, going_back}
+use Rattle.batch_order.specs.Steps.{going_back}
 use Rattle.readback.specs.declared.Parts.{Parts}
 use Rattle.batch_order.specs.Restart.{ArePartsOf, Resumes}
 use Rattle.replay.specs.declared.Act.{Act}
@@ -30,27 +29,21 @@ use Rattle.settled_changes.specs.declared.requested.Requested.{Requested}
 use Rattle.settled_changes.specs.declared.requested.Requested.TheVariants.{Nothing}
 use Rattle.settled_changes.specs.Requested.{strict_form}
 use Rattle.replay.specs.AskedRoutes.{OnlyAsksRoutes}
-use Rattle.replay.specs.declared.watch.Count.{Count}
 use Rattle.replay.specs.declared.fate.Fate.{Fate}
-use Rattle.replay.specs.declared.fate.Fate.TheVariants.{ToTheEnd, BackAfter, CrashAfter, RestartedAfter}
-use Rattle.replay.specs.declared.steps.Ended.{Ended}
-use Rattle.replay.specs.declared.steps.Ended.TheVariants as ended
+use Rattle.replay.specs.declared.fate.Fate.TheVariants.{ToTheEnd, RestartedAfter}
 use Rattle.report_lines.specs.declared.Family.{Family}
 use Rattle.report_lines.specs.declared.Family.TheVariants.{Route, Acl, Route6, Acl6}
-use Rattle.replay.specs.Effects.{Setting, Effect, effects_of, printed, probes_told, waiting_after}
+use Rattle.replay.specs.Effects.{Setting, probes_told, waiting_after}
 use Rattle.trace_file.specs.Forms.{IsTraceLineOf}
 use Rattle.replay.specs.JsonLines.{change_line}
-use Rattle.replay.specs.Reports.{done_line}
 use Rattle.replay.specs.InFlight.{AreOf}
-use Rattle.replay.specs.Text.{aborted_line, restarted_line}
 use Rattle.replay.specs.Run.{Progress}
 use Rattle.replay.specs.Fates.{IsBefore, IsFirst, IsWithinCrash, crash_of, most_of}
 use Rattle.replay.specs.declared.ActFault.{ActFault}
 use Rattle.replay.specs.declared.ActFault.TheVariants.{BatchFull, ChangesPending, ProbesFull, Held, Stopped}
 use Rattle.replay.specs.declared.RunFault.{RunFault}
 use Rattle.replay.specs.declared.RunFault.TheVariants.{Sink, Device, Memory}
-use Rattle.replay.specs.Carried.{IsAt, Carries, CutsAtLine, CutsAtWrite, CutsEffects, Wants}
-use Rattle.replay.specs.Outside.{Outside}
+use Rattle.replay.specs.Carried.{IsAt, Carries, CutsAtLine, CutsAtWrite, Wants}
 
 -- what is told of each write: how rules are named, whether a trace is wanted, after how many further writes a probe's
 -- word is searched, whether all is told in JSON, whether a trace tells what a write does, whether removals go first where
@@ -64,9 +57,8 @@ pub record Watching : Type 0 where
   pub parts : Bool
   pub probes : List Key
 
--- The manager, what is told of each write, the pending batch, what is asked for beside it, what the report counts, and
--- whether what is pending are removals that go before a rest;
--- how many writes of an unfinished commit were made, each of them told, of how many of these the probes' words are in
+-- The manager, what is told of each write, the pending batch, what is asked for beside it, what the report counts,
+-- whether what is pending are removals that go before a rest, how many writes of an unfinished commit were made, each of them told, of how many of these the probes' words are in
 -- flight, and what becomes of it; and whether no call may follow.
 pub record Running : Type 0 where
   pub manager : Managed
@@ -228,9 +220,8 @@ pub record MakesSome (most : Option ℕ) (told : ℕ) (begun now : Managed) : Ty
   pub left_is : actions_left (trial_rest most (told + length (writes_in made))) now.state one ≡ left
   pub same : IsSame (trial_rest most told) (trial_rest most (told + length (writes_in made))) held one
 
--- A commit is unfinished: what was asked for is settled, it was accepted, some of its writes were made, and the rest of them is
--- held. Where it crashes
--- it has not come further.
+-- A commit is unfinished: what was asked for is settled, it was accepted, some of its writes were made, and the rest of
+-- them is held. Where it crashes it has not come further.
 pub record IsHalfway (run : Running) : Type 0 where
   pub begun : Managed
   pub first : IsFirst run.fate
@@ -404,102 +395,3 @@ limit_text (Err ChangesPending) = Some (codes "changes pending")
 limit_text (Err ProbesFull) = Some (codes "too many probes")
 limit_text (Err (Held left)) = Some (codes "a commit is unfinished")
 limit_text (Err (Stopped why)) = None
-
--- what is told while a manager makes the writes of its commit
-abbrev pub telling : Managed → Watching → Setting
-telling manager watch =
-    record {
-      slots = manager.slots;
-      mode = manager.mode;
-      placement = manager.placement;
-      family = watch.family;
-      trace = watch.trace;
-      depth = watch.depth;
-      json = watch.json;
-      names = watch.names;
-      parts = watch.parts;
-    }
-
--- it has come further by some actions
-pub record HasCome (watch : Watching) (old new : Count) (made : List Action) : Type 0 where
-  pub told : new.told ≡ old.told + length (writes_in made)
-  pub waiting : new.waiting ≡ waiting_after watch.depth old.waiting made
-
--- the effects of a commit's actions from a count on, over a device of so many slots where these were made before
-abbrev pub effects_on : Managed → Watching → ℕ → Count → List Action → List Action → List Effect
-effects_on manager watch device_slots count before made =
-    effects_of (telling manager watch) (probes_told watch.json watch.probes) count.told count.waiting (replay device_slots (writes_in before)) made
-
--- these actions are told, behind those that were made before
-abbrev pub TellsActions : Managed → Watching → ℕ → Count → List Action → List Action → Option (List ℕ) → Option (List ℕ) → Type 0
-TellsActions manager watch device_slots count before made taken_old taken_new =
-    Appends taken_old taken_new (printed (effects_on manager watch device_slots count before made))
-
--- a commit ended with these actions: it is finished, or taken back
-abbrev pub EndsBy : Bool → Managed → HeldCommit → List Action → Ended → Managed → Type 0
-EndsBy back begun held actions (ended.Finished done) now =
-    (back ≡ false) × (done ≡ held.counts)
-    × (now ≡ record begun { state = state_after begun.state (writes_in actions); rules = held.rules; bits = held.bits; held = None })
-EndsBy back begun held actions ended.Reverted now =
-    (back ≡ true) × (now ≡ record begun { state = state_after begun.state (writes_in actions); held = None })
-
--- the line of one that finished
-abbrev pub finished_line : Bool → Bool → ℕ → Fate → Done → ℕ → List ℕ
-finished_line json early commit ToTheEnd done writes = done_line json early commit done
-finished_line json early commit (BackAfter most) done writes = done_line json early commit done
-finished_line json early commit (CrashAfter after) done writes = done_line json early commit done
-finished_line json early commit (RestartedAfter after) done writes = restarted_line commit after writes
-
--- its line, by its number, by what became of it, and by its writes
-abbrev pub ended_line : Bool → Bool → ℕ → Fate → Ended → ℕ → List ℕ
-ended_line json early commit fate (ended.Finished done) writes = finished_line json early commit fate done writes
-ended_line json early commit fate ended.Reverted writes = aborted_line commit writes
-
--- a commit under way at a moment: its manager, how far it has come, and what stands outside of the run
-pub record Snapshot : Type 0 where
-  pub manager : Managed
-  pub count : Count
-  pub out : Outside
-
-abbrev pub snapshot : Managed → Count → Outside → Snapshot
-snapshot manager count out = record { manager = manager; count = count; out = out }
-
--- All of them are made, and told where the device and the words in flight were as they should be when they began
--- (`Seen`).
-pub record MakesAll (Seen : Type 0) (most : Option ℕ) (watch : Watching) (device_slots : ℕ) (begun : Snapshot) (ended : Ended) (now : Snapshot) : Type 0 where
-  pub held : HeldCommit
-  pub actions : List Action
-  pub held_is : begun.manager.held ≡ Some held
-  pub actions_are : actions ≡ actions_left (trial_rest most begun.count.told) begun.manager.state held
-  pub ends : EndsBy (goes_back (trial_rest most begun.count.told) held) begun.manager held actions ended now.manager
-  pub come : HasCome watch begun.count now.count actions
-  pub events : now.out.events ≡ begun.out.events ++ actions
-  pub report : Seen → TellsActions begun.manager watch device_slots begun.count begun.out.events actions begun.out.taken now.out.taken
-
--- some of them are made and told, and the next one, a write, isn't made
-pub record StopsAtWrite (Seen : Type 0) (most : Option ℕ) (watch : Watching) (device_slots : ℕ) (begun now : Snapshot) : Type 0 where
-  pub some : MakesSome most begun.count.told begun.manager now.manager
-  pub due : Write
-  pub left : List Action
-  pub left_is : some.left ≡ Written due ∷ left
-  pub next : next_of now.manager.held ≡ Some due
-  pub come : HasCome watch begun.count now.count some.made
-  pub events : now.out.events ≡ begun.out.events ++ some.made
-  pub report : Seen → TellsActions begun.manager watch device_slots begun.count begun.out.events some.made begun.out.taken now.out.taken
-
--- some of them are made, and a line of the last one, or of the drain that is next, isn't told whole
-pub record StopsAtLine (Seen : Type 0) (most : Option ℕ) (watch : Watching) (device_slots : ℕ) (begun now : Snapshot) : Type 0 where
-  pub some : MakesSome most begun.count.told begun.manager now.manager
-  pub come : HasCome watch begun.count now.count some.made
-  pub events : now.out.events ≡ begun.out.events ++ some.made
-  pub cuts : Seen → CutsEffects (effects_on begun.manager watch device_slots begun.count begun.out.events (some.made ++ some.left)) begun.out.events now.out.events begun.out.taken now.out.taken
-
--- a fault is the sink's, and then this, or the device's, and then that
-abbrev pub FailsBy : Type 0 → Type 0 → RunFault → Type 0
-FailsBy AtLine AtWrite why = ((why ≡ Sink) × AtLine) ⊎ ((why ≡ Device) × AtWrite)
-
--- what comes of the actions that are left of a commit under way, by the answer
-abbrev pub Makes : Type 0 → Option ℕ → Watching → ℕ → Snapshot → Snapshot → Result Ended RunFault → Type 0
-Makes Seen most watch device_slots begun now (Ok ended) = MakesAll Seen most watch device_slots begun ended now
-Makes Seen most watch device_slots begun now (Err why) =
-    FailsBy (StopsAtLine Seen most watch device_slots begun now) (StopsAtWrite Seen most watch device_slots begun now) why

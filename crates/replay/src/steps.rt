@@ -15,7 +15,8 @@ ghost use Rattle.replay.specs.InFlight.{AreOf, IsSeen, flight_left, found_after}
 ghost use Rattle.replay.specs.Outside.{Leaves, WritesLines, outside};
 ghost use Rattle.replay.specs.Fates.{IsWithinCrash, crash_due, most_of};
 ghost use Rattle.replay.specs.Pausing.{MakesUntil, MakesUpTo};
-ghost use Rattle.replay.specs.Running.{Makes, MayTurnBack, TurnsBackAt, actions_left, trial_rest, snapshot};
+ghost use Rattle.replay.specs.Running.{MayTurnBack, TurnsBackAt, actions_left, trial_rest};
+ghost use Rattle.replay.specs.Making.{Makes, snapshot};
 
 use crate::fate::Fate;
 use crate::watch::{Count, Watch};

@@ -4,9 +4,9 @@
 //! each call keeps it, whatever it answers but a failure of the sink or want of memory: so any call may follow.
 #![tactic(auto)]
 
-ghost use Rattle.std.specs.Prelude.{◌≡◌, ◌≢◌, ◌+◌, ◌<◌, ◌≤◌, ◌^◌, [], true, Err, IfOk};
+ghost use Rattle.std.specs.Prelude.{◌≡◌, ◌≢◌, ◌+◌, ◌<◌, ◌≤◌, ◌^◌, [], true, false, Err, IfOk};
 ghost use Rattle.tcam_device.specs.View.{DeviceView};
-ghost use Rattle.replay.specs.Running.{IsActOf};
+ghost use Rattle.replay.specs.Running.{IsActOf, begun};
 ghost use Rattle.resumed_runs.specs.Going.{CanGoOn};
 
 use replay::{Act, ActFault, Family, Mode, Placement, Run, RunFault};
@@ -29,6 +29,7 @@ pub fn begin(
     requires most { slots ≤ MOST_SLOTS }
     requires depth { depth ≤ 15 }
     ensures going { IfOk result (λ run. (device : DeviceView) → slots ≤ device.slots → device.events ≡ [] → device.flight ≡ [] → CanGoOn run device) }
+    ensures begun { IfOk result (λ run. run ≡ begun slots mode placement family trace depth false false) }
     ensures begins { IfOk result (λ run. run.commits ≡ 0) }
 {
     Ok(Run::new(

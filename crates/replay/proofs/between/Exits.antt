@@ -40,7 +40,8 @@ use Rattle.report_lines.specs.Told.{verdict_told}
 use Rattle.report_lines.specs.Outside.{AppendsPart}
 use Rattle.replay.specs.Outside.{CutsLines, outside}
 use Rattle.replay.specs.Carried.{IsAt}
-use Rattle.replay.specs.Running.{Running, Watching, HasCome, IsRun, IsHalfway, IsMidCommit, ComesTo, Makes, MakesAll, MakesSome, ShowsRules, TellsActions, act_outcome_of, sink_failed, ended_line, watching, setting_of, progress_of, routes_of, verdict_of, snapshot}
+use Rattle.replay.specs.Running.{Running, Watching, IsRun, IsHalfway, IsMidCommit, ComesTo, MakesSome, ShowsRules, act_outcome_of, sink_failed, watching, setting_of, progress_of, routes_of, verdict_of}
+use Rattle.replay.specs.Making.{HasCome, Makes, MakesAll, TellsActions, ended_line, snapshot}
 use Rattle.replay.specs.declared.fate.Fate.{Fate}
 use Rattle.replay.specs.declared.fate.Fate.TheVariants as fates
 use Rattle.replay.specs.Fates.{IsFirst, IsToCrash, commit_act, most_of}

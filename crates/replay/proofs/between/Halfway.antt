@@ -24,7 +24,8 @@ use Rattle.settled_changes.specs.declared.requested.Requested.TheVariants.{Nothi
 use Rattle.replay.specs.declared.fate.Fate.{Fate}
 use Rattle.replay.specs.declared.fate.Fate.TheVariants.{ToTheEnd, BackAfter, CrashAfter, RestartedAfter}
 use Rattle.replay.specs.Fates.{IsBefore, IsFirst, IsWithinCrash, crash_of, most_of}
-use Rattle.replay.specs.Running.{Running, Watching, EndsBy, HasCome, IsRun, IsHalfway, IsMidCommit, MakesAll, MakesSome, MayTurnBack, ShowsRules, ended_line, finished_line, goes_back, actions_left, trial_rest, setting_of, routes_of, trial_left, verdict_of, watching, snapshot}
+use Rattle.replay.specs.Running.{Running, Watching, IsRun, IsHalfway, IsMidCommit, MakesSome, MayTurnBack, ShowsRules, goes_back, actions_left, trial_rest, setting_of, routes_of, trial_left, verdict_of, watching}
+use Rattle.replay.specs.Making.{EndsBy, HasCome, MakesAll, ended_line, finished_line, snapshot}
 use Rattle.replay.specs.Reports.{done_line}
 use Rattle.replay.specs.Text.{aborted_line}
 use Rattle.replay.specs.Outside.{outside}

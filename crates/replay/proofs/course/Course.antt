@@ -22,7 +22,8 @@ use Rattle.report_lines.specs.Outside.{AppendsPart}
 use Rattle.replay.specs.Outside.{CutsLines, outside}
 use Rattle.replay.specs.Carried.{CutsEffects, Does, IsAt}
 use Rattle.replay.specs.Fates.{commit_act}
-use Rattle.replay.specs.Running.{Running, TellsActions, effects_on, watching, setting_of, progress_of}
+use Rattle.replay.specs.Running.{Running, watching, setting_of, progress_of}
+use Rattle.replay.specs.Making.{TellsActions, effects_on}
 use Rattle.replay.specs.Unfinished.{IsUnfinished, Finishes, StaysUnfinished, BreaksOff}
 use Rattle.replay.proofs.lines.Opened.{carried-append}
 use Rattle.replay.proofs.lines.Effects.{does-lines, effects-append, events-actions, events-append, events-flushed, events-front, printed-append, waiting-append}

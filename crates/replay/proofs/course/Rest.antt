@@ -12,7 +12,8 @@ use Rattle.replay.specs.Effects.{Effect}
 use Rattle.replay.specs.Run.{Progress, carried_so_far}
 use Rattle.replay.specs.Crashing.{HasMoreThan}
 use Rattle.replay.specs.Fates.{IsBefore, IsWithinCrash, crash_of, most_of}
-use Rattle.replay.specs.Running.{Running, Watching, HasCome, IsHalfway, IsRun, MakesAll, MakesSome, MayTurnBack, ended_line, goes_back, actions_left, trial_rest, setting_of, watching, snapshot}
+use Rattle.replay.specs.Running.{Running, Watching, IsHalfway, IsRun, MakesSome, MayTurnBack, goes_back, actions_left, trial_rest, setting_of, watching}
+use Rattle.replay.specs.Making.{HasCome, MakesAll, ended_line, snapshot}
 use Rattle.replay.specs.Unfinished.{IsUnfinished, StandsHalfway}
 use Rattle.replay.specs.Outside.{outside}
 use Rattle.replay.proofs.making.Acting.{some-held}

@@ -17,7 +17,8 @@ use Rattle.replay.specs.Carried.{IsAt}
 use Rattle.replay.specs.Fates.{IsUpTo, commit_act}
 use Rattle.replay.specs.InFlight.{AreOf, IsSeen}
 use Rattle.replay.specs.Pausing.{MakesUpTo}
-use Rattle.replay.specs.Running.{Running, AreLeft, HasCome, IsRun, MakesSome, progress_of, setting_of, watching, snapshot}
+use Rattle.replay.specs.Running.{Running, AreLeft, IsRun, MakesSome, progress_of, setting_of, watching}
+use Rattle.replay.specs.Making.{HasCome, snapshot}
 use Rattle.replay.specs.Unfinished.{IsUnfinished}
 use Rattle.replay.specs.Crashing.{ComesToCrash, HasMoreThan, IsAtCrash}
 use Rattle.replay.specs.Outside.{outside}

@@ -22,7 +22,8 @@ use Rattle.replay.specs.Effects.{Effect, waiting_after}
 use Rattle.replay.specs.Run.{Progress, carried_so_far}
 use Rattle.replay.specs.Text.{restarted_line}
 use Rattle.replay.specs.Fates.{most_of}
-use Rattle.replay.specs.Running.{Running, Watching, EndsBy, HasCome, IsOnward, IsRun, MakesAll, MakesSome, MayTurnBack, ShowsRules, ended_line, finished_line, first_actions, goes_back, actions_left, trial_rest, routes_of, setting_of, watching, snapshot}
+use Rattle.replay.specs.Running.{Running, Watching, IsOnward, IsRun, MakesSome, MayTurnBack, ShowsRules, first_actions, goes_back, actions_left, trial_rest, routes_of, setting_of, watching}
+use Rattle.replay.specs.Making.{EndsBy, HasCome, MakesAll, ended_line, finished_line, snapshot}
 use Rattle.replay.specs.Unfinished.{IsUnfinished, StandsOnward}
 use Rattle.replay.specs.Outside.{outside}
 use Rattle.replay.proofs.making.Acting.{some-held}

@@ -25,7 +25,8 @@ use Rattle.replay.specs.Fates.{IsUpTo, commit_act}
 use Rattle.replay.specs.Pausing.{MakesUpTo}
 use Rattle.replay.specs.Crashing.{ComesToCrash, HasMoreThan}
 use Rattle.replay.specs.InFlight.{IsSeen}
-use Rattle.replay.specs.Running.{Running, HasCome, IsHalfway, IsRun, IsMidCommit, MakesSome, first_actions, goes_back, actions_left, progress_of, setting_of, turns_back, watching, snapshot}
+use Rattle.replay.specs.Running.{Running, IsHalfway, IsRun, IsMidCommit, MakesSome, first_actions, goes_back, actions_left, progress_of, setting_of, turns_back, watching}
+use Rattle.replay.specs.Making.{HasCome, snapshot}
 use Rattle.replay.specs.Unfinished.{IsUnfinished, StandsHalfway}
 use Rattle.replay.specs.Outside.{outside}
 use Rattle.replay.proofs.course.Course.{Course, at-more, breaks, count_of, does-made, later, stays, told-then}

@@ -17,7 +17,8 @@ use Rattle.batch_order.specs.Managed.{IsOn, Managed, live_now}
 use Rattle.batch_order.specs.Steps.{KeepsCurrent, ServesNow}
 use Rattle.replay.specs.Effects.{Effect, flushed, searched_after, searches_of, probes_told}
 use Rattle.replay.specs.InFlight.{AreOf, IsSeen, flight_left, found_after, found_all}
-use Rattle.replay.specs.Running.{Watching, telling}
+use Rattle.replay.specs.Running.{Watching}
+use Rattle.replay.specs.Making.{telling}
 use Rattle.replay.proofs.flight.InFlight.{current-after, found-after-is, found-all-is, flushed-none}
 
 -- a write that was made leaves the state that it leaves

@@ -17,7 +17,8 @@ use Rattle.batch_order.specs.Steps.{Steps, actions_of, awaits_drain, next_of}
 use Rattle.replay.specs.declared.watch.Count.{Count}
 use Rattle.replay.specs.Effects.{waiting_after, probes_told}
 use Rattle.replay.specs.InFlight.{AreOf, flight_left}
-use Rattle.replay.specs.Running.{Watching, HasCome, IsSame, MakesSome, MayTurnBack, TurnsBackAt, actions_left, trial_rest}
+use Rattle.replay.specs.Running.{Watching, IsSame, MakesSome, MayTurnBack, TurnsBackAt, actions_left, trial_rest}
+use Rattle.replay.specs.Making.{HasCome}
 use Rattle.replay.proofs.making.Acting.{ActsOnce, GoesOn, IsTurned, Straight, drained-first, due-first, goes-on, never-idle, rest-more, same-then, some-held, turns-at, waiting-first, wrote-first}
 use Rattle.replay.proofs.lines.Effects.{grown-more, waiting-append}
 use Rattle.replay.proofs.flight.InFlight.{are-after, few-after}

@@ -15,7 +15,8 @@ use Rattle.replay.specs.declared.watch.Count.{Count}
 use Rattle.replay.specs.Effects.{Effect, Acts, Prints, events_in, printed, deed_told, write_told, drain_told, probes_told, flushed, searched_after, waiting_after, effects_of}
 use Rattle.replay.specs.Outside.{CutsLines}
 use Rattle.replay.specs.Carried.{CutsEffects}
-use Rattle.replay.specs.Running.{Watching, HasCome, TellsActions, effects_on, telling}
+use Rattle.replay.specs.Running.{Watching}
+use Rattle.replay.specs.Making.{HasCome, TellsActions, effects_on, telling}
 use Rattle.replay.proofs.lines.Effects.{effects-append, events-actions, events-append, events-front, events-flushed, events-searched, events-write_told, events-drain_told, printed-append}
 
 -- lines that are cut, behind effects that were told

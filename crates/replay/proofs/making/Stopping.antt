@@ -14,7 +14,8 @@ use Rattle.batch_order.specs.Steps.{Steps, actions_of, next_of}
 use Rattle.replay.specs.declared.watch.Count.{Count}
 use Rattle.replay.specs.declared.steps.Ended.TheVariants as ended
 use Rattle.replay.specs.Carried.{CutsEffects}
-use Rattle.replay.specs.Running.{Watching, HasCome, MakesAll, MakesSome, StopsAtLine, StopsAtWrite, TellsActions, effects_on, actions_left, trial_rest, snapshot}
+use Rattle.replay.specs.Running.{Watching, MakesSome, actions_left, trial_rest}
+use Rattle.replay.specs.Making.{HasCome, MakesAll, StopsAtLine, StopsAtWrite, TellsActions, effects_on, snapshot}
 use Rattle.replay.specs.Outside.{outside}
 use Rattle.replay.proofs.making.Acting.{ActsOnce, GoesOn, Straight, finished-first, reverted-first}
 use Rattle.replay.proofs.lines.Effects.{grown-more}

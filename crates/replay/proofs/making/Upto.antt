@@ -14,7 +14,8 @@ use Rattle.batch_order.specs.Managed.Way.{On, Back}
 use Rattle.replay.specs.declared.watch.Count.{Count}
 use Rattle.replay.specs.Fates.{IsBefore, IsUpTo, IsWithinCrash, crash_due}
 use Rattle.replay.specs.Pausing.{Pauses}
-use Rattle.replay.specs.Running.{Snapshot, Watching, TellsActions, left_in, actions_left, snapshot}
+use Rattle.replay.specs.Running.{Watching, left_in, actions_left}
+use Rattle.replay.specs.Making.{Snapshot, TellsActions, snapshot}
 use Rattle.replay.specs.Outside.{outside}
 use Rattle.replay.proofs.making.Acting.{some-held}
 use Rattle.replay.proofs.making.Making.{IsMaking}

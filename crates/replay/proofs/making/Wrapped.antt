@@ -8,7 +8,8 @@ use Rattle.replay.specs.declared.watch.Count.{Count}
 use Rattle.replay.specs.declared.steps.Ended.{Ended}
 use Rattle.replay.specs.declared.RunFault.{RunFault}
 use Rattle.replay.specs.Pausing.{MakesUntil}
-use Rattle.replay.specs.Running.{Watching, Makes, actions_left, snapshot}
+use Rattle.replay.specs.Running.{Watching, actions_left}
+use Rattle.replay.specs.Making.{Makes, snapshot}
 use Rattle.replay.specs.Outside.{outside}
 use Rattle.replay.proofs.making.Upto.{whole-left}
 

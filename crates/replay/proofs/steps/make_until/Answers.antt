@@ -260,7 +260,6 @@ returns-in-Err-clause-makes g c = λ which.
     inr (refl, (stops, i.before, below-written c.args.stop c.args.count.now.told c.making.count.told m.some.made m.some.left stops.left stops.due m.come.told i.reach stops.left_is early))
 
 -- ---- a drain that waits: the words in flight are searched, then it is made and told
-
 pub pass_drain-requires : goal.pass_drain-requires
 pass_drain-requires g c =
     let i = c.making.invariant in
@@ -398,7 +397,6 @@ pub returns-in-Err-tell_drain-clause-room : goal.returns-in-Err-tell_drain-claus
 returns-in-Err-tell_drain-clause-room g c = c.pass_drain.ensures.room
 
 -- ---- it stops at its crash
-
 pub returns-then-stops_here-clause-makes : goal.returns-then-stops_here-clause-makes
 returns-then-stops_here-clause-makes g c = λ which.
     let i = c.making.invariant in
@@ -416,7 +414,6 @@ pub returns-then-stops_here-clause-room : goal.returns-then-stops_here-clause-ro
 returns-then-stops_here-clause-room g c = c.making.invariant.making.room
 
 -- ---- what is left in flight, and the room
-
 pub returns-in-Ok-Finished-clause-in_flight : goal.returns-in-Ok-Finished-clause-in_flight
 returns-in-Ok-Finished-clause-in_flight g c = λ _. rw c.in-Ok-Finished.ensures.made.flight c.making.invariant.making.words
 
@@ -451,7 +448,6 @@ returns-in-Err-clause-seen g c = λ _ seen.
     rw (failed.failed, failed.unmade.slots, i.leaves.slots, failed.unmade.events, failed.unmade.flight) (seen-turned c.making.manager c.turn_round.new.manager (g.D.Writable.view c.args.device.now).slots (g.D.Writable.view c.making.device).events (g.D.Writable.view c.making.device).flight c.turn_round.ensures.state c.turn_round.ensures.current (i.seen seen))
 
 -- ---- what it leaves of the sink and the device
-
 pub returns-then-stops_here-clause-leaves : goal.returns-then-stops_here-clause-leaves
 returns-then-stops_here-clause-leaves g c = leaves-as _ _ _ _ _ _ ⊥ ⊥ _ _ (λ e. absurd (cc)) (λ never. absurd never) (λ e. absurd (cc)) (λ never. absurd never) c.making.invariant.leaves
 

@@ -3,7 +3,8 @@ use Rattle.script_lines.specs.Given.{counted}
 use Rattle.replay.specs.InFlight.{IsSeen}
 use Rattle.replay.specs.Outside.{Leaves}
 use Rattle.replay.specs.Fates.{IsBefore, IsWithinCrash}
-use Rattle.replay.specs.Running.{TellsActions, trial_rest}
+use Rattle.replay.specs.Running.{trial_rest}
+use Rattle.replay.specs.Making.{TellsActions}
 use Rattle.replay.proofs.making.Making.{IsMaking, left_number}
 use Rattle.replay.proofs.steps.make_until.Given as goal
 
