@@ -53,9 +53,11 @@ use tcam_device::ReadBack;
 /// trace from the source, or one of the product's own texts.
 ///
 /// After every single device write each packet key has the answer of the set before the commit or of the one after it,
-/// and after the last write of a commit that finishes that of the one after it; a refused commit writes nothing. A
-/// trial with more writes than it may make makes so many of them and then undoes each, the last one first: it ends with
-/// the set, the live ranges and the device as they were before it. A trial with no more is a commit.
+/// and after the last write of a commit that finishes that of the one after it; a refused commit writes nothing. A commit
+/// whose removals go first is made in two parts: the same is promised of the writes of both, one after the other, and
+/// where sink, device or memory fails the first may be made alone. A trial with more writes than it may make makes so
+/// many of them and then undoes each, the last one first: it ends with the set, the live ranges and the device as they
+/// were before it. A trial with no more is a commit.
 /// A crash with more writes than it may make makes so many of them. Then its manager is dropped, and another one goes
 /// on with the commit by what the device shows: the same is promised of the writes of both, one after the other. A
 /// crash with no more is a commit.
@@ -66,13 +68,13 @@ use tcam_device::ReadBack;
 /// and once more behind a crash that comes before an entry stands that the commit inserts; not otherwise.
 ///
 /// The answer is `Done` or `Refused` where the script was read to its end, `Refused` where some commit was refused;
-/// `Script` where a line is at fault, which the last line of the report names. `ReadFault` and `WriteFault` come
-/// exactly where the count of failures of source or sink rose. A device write that fails is tried again at once, four
-/// times in all; `DeviceFault` comes where the fourth failed too. After any of the three nothing more is read, written
-/// or printed. `Memory` comes for want of memory alone, before a commit's first write or at its crash. `Usage` comes
-/// where the words are no command line, and there nothing else comes but a failing sink and want of memory. The lines
-/// of an act are handed to the sink before the next act is carried out. No input is taken in vain: of the lines that
-/// were whole before the last read none is at fault or wants memory, journal and accepted report begin with their
+/// `Script` where a line is at fault, which the last line of the report names. `ReadFault` and `WriteFault` come exactly
+/// where the count of failures of source or sink rose. A device write that fails is tried again at once, four times in
+/// all; `DeviceFault` comes where the fourth failed too. After any of the three nothing more is read, written or printed.
+/// `Memory` comes for want of memory alone, before a commit's first write, or that of its rest, or at its crash. `Usage`
+/// comes where the words are no command line, and there nothing else comes but a failing sink and want of memory. The
+/// lines of an act are handed to the sink before the next act is carried out. No input is taken in vain: of the lines
+/// that were whole before the last read none is at fault or wants memory, journal and accepted report begin with their
 /// effects, and no read before it was the end of the input.
 ///
 /// Of a trace one line is printed: the answer is `Done` where it is orderly, and then each write of it is hitless and the
