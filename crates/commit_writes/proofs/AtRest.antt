@@ -22,7 +22,7 @@ use Rattle.commit_writes.specs.Actions.{have_bits}
 use Rattle.commit_writes.specs.InFlight.{ArePartOf, ServingTo, after_events}
 use Rattle.commit_writes.specs.Segments.{CommitsComeToRest, RestsOnWiderDevices}
 use Rattle.commit_writes.specs.Serving.{AreBitsOf}
-use Rattle.commit_writes.specs.Shape.{set_pieces}
+use Rattle.commit_writes.specs.Shape.{set_pieces, fresh_writes}
 use Rattle.commit_writes.proofs.Actions.{commits_serve}
 use Rattle.commit_writes.proofs.BatchRules.{right_after, set_after-is}
 use Rattle.commit_writes.proofs.Current.{are_current_part}
@@ -30,7 +30,7 @@ use Rattle.commit_writes.proofs.KeptBits.{pieces_left}
 use Rattle.commit_writes.proofs.Searches.{stay_current, state_after-events}
 use Rattle.commit_writes.proofs.WritesIn.{writes_of_commit}
 use Rattle.commit_writes.proofs.ServedLive.{change_begun, bits_begun, tables_stay}
-use Rattle.commit_writes.proofs.ServedTables.{fresh_writes, words_done, bits_after}
+use Rattle.commit_writes.proofs.ServedTables.{words_done, bits_after}
 use Rattle.commit_writes.proofs.SlotWrites.{LeavesTables}
 
 -- with its tables as they were a state is one still

@@ -13,7 +13,7 @@ use Rattle.rule_model.specs.Entry.{RankedPiece}
 use Rattle.tcam_device.specs.State.{State}
 use Rattle.rule_store.proofs.Additions.{new_rules, additions_set}
 use Rattle.commit_writes.specs.Bits.{FieldBits}
-use Rattle.commit_writes.specs.Shape.{set_pieces, inserted_pieces, rewritten_pieces, erased_pieces, common_pieces, dropped_pieces, names}
+use Rattle.commit_writes.specs.Shape.{set_pieces, inserted_pieces, rewritten_pieces, erased_pieces, common_pieces, names}
 use Rattle.commit_writes.proofs.SetPieces.{HasPiece, LacksPiece, IsChosen, in_chosen, chosen_in, all_chosen, set_has, AreOnce, chosen_once, chosen_ordered, pieces_once, rules_fall, chosen_served}
 use Rattle.commit_writes.proofs.BatchRules.{IsSoundChange, unnamed_stays, unnamed_same, added_named, set_after-is, right_after}
 use Rattle.std.specs.Prelude.{All, AllPairs}
@@ -172,13 +172,13 @@ removed_rise rules batch set =
 
 pub erased_once : (mode : Mode) (bits : FieldBits) (rules : List Rule) (batch : List Command) → IsSoundChange rules batch → AreOnce (erased_pieces mode bits rules batch)
 erased_once mode bits rules batch change =
-    chosen_once mode bits (λ old. dropped_pieces mode (rule_at (additions batch) old.priority) old) (reverse (filter (λ rule. removes rule.priority batch) rules)) (dropped_chosen mode batch)
+    chosen_once mode bits (λ old. added_pieces_over mode (rule_at (additions batch) old.priority) old) (reverse (filter (λ rule. removes rule.priority batch) rules)) (dropped_chosen mode batch)
     (λ i j d less inside same. let rises = removed_rise rules batch change.is_set i j d less inside in omega arith) apart
   where
-    apart : (old : Rule) → AllPairs (λ a b. a ≡ b → ⊥) (dropped_pieces mode (rule_at (additions batch) old.priority) old)
+    apart : (old : Rule) → AllPairs (λ a b. a ≡ b → ⊥) (added_pieces_over mode (rule_at (additions batch) old.priority) old)
     apart old = go (rule_at (additions batch) old.priority)
       where
-        go : (new : Option Rule) → AllPairs (λ a b. a ≡ b → ⊥) (dropped_pieces mode new old)
+        go : (new : Option Rule) → AllPairs (λ a b. a ≡ b → ⊥) (added_pieces_over mode new old)
         go None = pieces_apart mode old
         go (Some new) = AllPairs-filter (λ a b. a ≡ b → ⊥) (λ piece. not (has_piece (pieces_of mode new) piece)) (pieces_of mode old) (pieces_apart mode old)
 
@@ -190,7 +190,7 @@ inserted_falls mode bits rules batch change =
 
 pub erased_rises : (mode : Mode) (bits : FieldBits) (rules : List Rule) (batch : List Command) → IsSoundChange rules batch → IsRising (λ (ranked : RankedPiece). ranked.rank) (erased_pieces mode bits rules batch)
 erased_rises mode bits rules batch change =
-    chosen_ordered bits (λ m n. m ≤ n) (λ old. dropped_pieces mode (rule_at (additions batch) old.priority) old) (reverse (filter (λ rule. removes rule.priority batch) rules)) le_refl
+    chosen_ordered bits (λ m n. m ≤ n) (λ old. added_pieces_over mode (rule_at (additions batch) old.priority) old) (reverse (filter (λ rule. removes rule.priority batch) rules)) le_refl
     (λ i j d less inside. let rises = removed_rise rules batch change.is_set i j d less inside in omega arith)
 
 -- tables that serve the old rules and the added ones serve those of the set after it,

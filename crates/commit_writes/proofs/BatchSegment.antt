@@ -20,10 +20,10 @@ use Rattle.tcam_device.proofs.Spans.{state_after-append}
 use Rattle.commit_writes.specs.Proposal.{proposal}
 use Rattle.commit_writes.specs.declared.Rewrite.{Rewrite}
 use Rattle.commit_writes.specs.Bits.{FieldBits}
-use Rattle.commit_writes.specs.Shape.{set_pieces, inserted_pieces, rewritten_pieces, erased_pieces, Rewrites, Erases}
+use Rattle.commit_writes.specs.Shape.{set_pieces, inserted_pieces, rewritten_pieces, erased_pieces, Rewrites, Erases, due_of, HasShape}
 use Rattle.commit_writes.specs.Routes.{IsRoute, prefix_lengths}
 use Rattle.commit_writes.specs.Planned.{IdEntries, Planned, IsPlannedRow, planned_writes, slots_after}
-use Rattle.commit_writes.specs.PlannedBatch.{home_slot, rewrite_write, erase_write, batch_writes, IsIdOf, IsRewriteOf, IsPlannedBatch, HasSlotShape}
+use Rattle.commit_writes.specs.PlannedBatch.{home_slot, rewrite_write, erase_write, batch_writes, IsIdOf, IsRewriteOf, IsPlannedBatch}
 use Rattle.commit_writes.proofs.SlotWrites.{no_table, batch_slots}
 use Rattle.commit_writes.proofs.Segment.{planned_whole, planned_pieces, planned_tight, planned_uncrossed, planned_few}
 use Rattle.commit_writes.proofs.BatchRow.{row_of}
@@ -83,7 +83,7 @@ module _ (mode : Mode) (bits : FieldBits) (state : State) (rules : List Rule) (b
           (batch_rewrites mode bits state rules batch live slots entries planned rewrites erased plan) (batch_stand_first mode bits state rules batch live slots entries planned rewrites erased plan))
 
   -- so they have the shape of a commit's slot writes,
-  pub batch_shape : HasSlotShape mode bits rules batch state (batch_writes entries slots planned rewrites erased)
+  pub batch_shape : HasShape [] (due_of mode bits rules batch) state (batch_writes entries slots planned rewrites erased)
   batch_shape = record {
     inserted = planned_writes entries planned;
     rewritten = map (rewrite_write after) rewrites;

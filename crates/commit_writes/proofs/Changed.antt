@@ -27,7 +27,7 @@ use Rattle.rule_store.proofs.RulesAt.{cases_rule_at}
 use Rattle.rule_store.proofs.Sets.{has_priority-found}
 use Rattle.rule_model.specs.Entry.{RankedPiece}
 use Rattle.commit_writes.specs.Bits.{FieldBits}
-use Rattle.commit_writes.specs.Shape.{names, common_pieces, dropped_pieces, ranked_piece, ranked_pieces, inserted_pieces, rewritten_pieces, erased_pieces}
+use Rattle.commit_writes.specs.Shape.{names, common_pieces, ranked_piece, ranked_pieces, inserted_pieces, rewritten_pieces, erased_pieces}
 use Rattle.commit_writes.proofs.BatchRules.{added_named, unnamed_stays}
 use Rattle.commit_writes.proofs.ModePieces.{pieces_after}
 use Rattle.commit_writes.specs.declared.batch.pieces.Choice.TheVariants.{Common, Fresh}
@@ -138,11 +138,6 @@ fresh_added mode bits None rule = all_kept (ranked_pieces bits rule (pieces_of m
 fresh_added mode bits (Some old) rule =
     ranked_kept bits _ (λ piece. not (has_piece (pieces_of mode old) piece)) rule (pieces_of mode rule) (λ piece. ap not (among_has bits old rule (pieces_of mode old) piece))
 
-fresh_dropped : (mode : Mode) (bits : FieldBits) (other : Option Rule) (rule : Rule)
-    → chosen_pieces Fresh (pieces_at mode bits other) (pieces_at mode bits (Some rule)) ≡ ranked_pieces bits rule (dropped_pieces mode other rule)
-fresh_dropped mode bits None rule = fresh_added mode bits None rule
-fresh_dropped mode bits (Some new) rule = fresh_added mode bits (Some new) rule
-
 -- and the common ones stay
 common_stay : (mode : Mode) (bits : FieldBits) (other : Option Rule) (rule : Rule)
     → chosen_pieces Common (pieces_at mode bits other) (pieces_at mode bits (Some rule)) ≡ ranked_pieces bits rule (common_pieces mode other rule)
@@ -209,7 +204,7 @@ module _ (mode : Mode) (bits : FieldBits) (rules : List Rule) (batch : List Comm
           ∙ ap (λ n. ranked_pieces bits new (common_pieces mode (rule_at rules n) new)) (sym (own_priority (set_after rules batch) priority new is))
 
   abbrev pub erases : Rule → List RankedPiece
-  erases old = ranked_pieces bits old (dropped_pieces mode (rule_at (additions batch) old.priority) old)
+  erases old = ranked_pieces bits old (added_pieces_over mode (rule_at (additions batch) old.priority) old)
 
   abbrev pub removed : List Rule
   removed = filter (λ rule. removes rule.priority batch) rules
@@ -229,7 +224,7 @@ module _ (mode : Mode) (bits : FieldBits) (rules : List Rule) (batch : List Comm
           nothing false = refl
       go new (Some old) true is_new is_old is_gone =
           ap (erased_by mode bits) (stands_after priority new (Some old) true is_new is_old is_gone) ∙ ap (λ found. erased_by mode bits (record { old = Some old; new = found })) (or_none new)
-          ∙ fresh_dropped mode bits new old ∙ ap (λ found. ranked_pieces bits old (dropped_pieces mode found old)) (sym (ap (rule_at (additions batch)) (own_priority rules priority old is_old) ∙ is_new))
+          ∙ fresh_added mode bits new old ∙ ap (λ found. ranked_pieces bits old (added_pieces_over mode found old)) (sym (ap (rule_at (additions batch)) (own_priority rules priority old is_old) ∙ is_new))
           ∙ sym (ap (images_at erases) (gone_at (Some old) true is_old is_gone))
         where
           or_none : (found : Option Rule) → option_or found None ≡ found

@@ -1,6 +1,6 @@
 -- The words of the tables in front of a commit's other writes: while they are written the slots hold what they held, each bit
 -- that is tested is translated as before, and every key has the old answer; so the whole is a segment.
-use Rattle.std.proofs.Common.{◌≡◌, ℕ, ◌<◌, ◌≤◌, ◌⊎◌, ◌+◌, ◌-◌, max, fold, map, List, ◌++◌, length, take, slice_get, Contains, append_assoc, refl, inl, inr, sym, ◌∙◌, ap, subst, arith}
+use Rattle.std.proofs.Common.{◌≡◌, ℕ, ◌<◌, ◌≤◌, ◌⊎◌, ◌+◌, ◌-◌, max, fold, map, List, [], ◌++◌, length, take, slice_get, Contains, append_assoc, inl, inr, sym, ◌∙◌, ap, subst, arith}
 use Rattle.std.specs.Prelude.{flat_map}
 use Rattle.std.specs.List.{AllByRecursion, AllZip}
 use Rattle.std.proofs.lemmas.Bool.{cases_lt}
@@ -10,11 +10,11 @@ use Rattle.slot_order.specs.Order.{slot}
 use Rattle.slot_order.proofs.Lists.{AllByRecursion-member}
 use Rattle.rule_model.specs.declared.Rule.{Rule}
 use Rattle.rule_model.specs.Rule.{HasConditions}
-use Rattle.rule_model.specs.RuleSet.{IsRuleSet, BoundsChains}
+use Rattle.rule_model.specs.RuleSet.{IsRuleSet}
 use Rattle.rule_model.proofs.RuleSets.{IsRuleSet-distinct}
 use Rattle.rule_store.specs.declared.Mode.{Mode}
 use Rattle.rule_store.specs.declared.Command.{Command}
-use Rattle.rule_store.specs.Batch.{additions, set_after}
+use Rattle.rule_store.specs.Batch.{set_after}
 use Rattle.rule_store.proofs.Counts.{count_by-append}
 use Rattle.rule_model.specs.Entry.{RankedPiece}
 use Rattle.tcam_device.specs.declared.Write.{Write}
@@ -23,19 +23,19 @@ use Rattle.tcam_device.specs.Order.{IsOrdered, StandsOnce, HasOneTwin}
 use Rattle.tcam_device.specs.Hitless.{ShowsOldOrNew, IsHitless, TurnsOnce}
 use Rattle.tcam_device.specs.Insertion.{Insertion, insertions, is_table_write, table_writes, longest_insertion, IsGreatestSpan, IsWithinTightBound}
 use Rattle.tcam_device.proofs.Shown.{ordered_shows}
-use Rattle.tcam_device.proofs.Spans.{state_after-append, wide_from_tight}
+use Rattle.tcam_device.proofs.Spans.{state_after-append}
 use Rattle.tcam_device.proofs.Wider.{slots-after}
 use Rattle.commit_writes.specs.declared.Done.{Done}
 use Rattle.commit_writes.specs.Bits.{FieldBits, bits_with, new_bits}
-use Rattle.commit_writes.specs.Shape.{Rewrites, Erases, set_pieces, inserted_pieces, rewritten_pieces, erased_pieces, HasCommitShape}
+use Rattle.commit_writes.specs.Shape.{Rewrites, Erases, set_pieces, inserted_pieces, rewritten_pieces, erased_pieces, due_of, HasShape, fresh_writes}
 use Rattle.commit_writes.specs.Commit.{HoldsInOrder, KeepsPieces, IsSegment, AreCounts, insertion_writes}
 use Rattle.commit_writes.specs.Planned.{IsServedBy, Planned, longest_planned, greatest_planned}
-use Rattle.commit_writes.specs.PlannedBatch.{HasSlotShape, AreSlotWrites, AreNumbersOf}
+use Rattle.commit_writes.specs.PlannedBatch.{AreSlotWrites, AreNumbersOf}
 use Rattle.commit_writes.proofs.BatchRules.{IsSoundChange}
 use Rattle.commit_writes.proofs.Mirror.{served_hits}
 use Rattle.commit_writes.proofs.SetPieces.{set_served, set_pieces-of}
 use Rattle.commit_writes.proofs.KeptBits.{pieces_same}
-use Rattle.commit_writes.proofs.ServedTables.{IsBitsStart, fresh_writes, words_state, words_keep}
+use Rattle.commit_writes.proofs.ServedTables.{IsBitsStart, words_state, words_keep}
 use Rattle.commit_writes.proofs.TableWords.{words_taken, words_written}
 use Rattle.commit_writes.proofs.TableWrites.{AreToTables, bit_writes-tables, all_tables, tables_in_use, insertions-behind}
 
@@ -94,7 +94,7 @@ module _ (mode : Mode) (bits : FieldBits) (rules : List Rule) (batch : List Comm
   pub front_numbers : (planned : List Planned) (counts : Done) → AreNumbersOf (fresh_writes mode bits rules batch state ++ made) planned counts
       → longest_insertion (fresh_state mode bits rules batch state) made ≡ longest_planned planned
       → IsGreatestSpan (insertions (fresh_state mode bits rules batch state) made) (greatest_planned planned)
-      → AreCounts state (fresh_writes mode bits rules batch state ++ made) counts
+      → AreCounts (fresh_writes mode bits rules batch state ++ made) (insertions state (fresh_writes mode bits rules batch state ++ made)) counts
   front_numbers planned counts numbers longest greatest = record {
     writes = numbers.writes_are;
     words = numbers.words;
@@ -219,14 +219,12 @@ module _ (mode : Mode) (bits : FieldBits) (rules : List Rule) (batch : List Comm
       once = subst (λ at. StandsOnce at (Contains (set_pieces mode during later))) (sym (state_after-append state tables made)) keeps_on.once;
     }
 
-  front_shape : HasSlotShape mode during rules batch behind made → HasCommitShape mode bits rules batch state (tables ++ made)
+  front_shape : HasShape [] (due_of mode during rules batch) behind made → HasShape tables (due_of mode during rules batch) state (tables ++ made)
   front_shape shape = record {
-    tables = tables;
     inserted = shape.inserted;
     rewritten = shape.rewritten;
     erased = shape.erased;
     parts = ap (λ rest. tables ++ rest) shape.parts;
-    words = refl;
     whole = shape.whole;
     entries = shape.entries;
     results = subst (λ at. AllZip (Rewrites at) (rewritten_pieces mode during rules batch) shape.rewritten) (sym (state_after-append state tables shape.inserted)) shape.results;
@@ -245,9 +243,5 @@ module _ (mode : Mode) (bits : FieldBits) (rules : List Rule) (batch : List Comm
     turns = λ none. front_turns change.is_set change.right start ordered (slots.turns none);
     order = front_order change.is_set change.right start ordered slots.slots_only slots.order;
     shape = front_shape slots.shape;
-    bound = λ chain bounds. wide_from_tight chain (insertions state (tables ++ made)) (tight chain bounds);
-    tight = tight;
+    tight = λ chain bounds. subst (IsWithinTightBound chain) (sym front_insertions) (slots.tight chain bounds);
   }
-    where
-      tight : (chain : ℕ) → BoundsChains (rules ++ additions batch) chain → IsWithinTightBound chain (insertions state (tables ++ made))
-      tight chain bounds = subst (IsWithinTightBound chain) (sym front_insertions) (slots.tight chain bounds)

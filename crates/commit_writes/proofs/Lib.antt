@@ -77,3 +77,4 @@ pub mod ReadBack
 pub mod Walked
 pub mod Named
 pub mod Changed
+pub mod Bounds

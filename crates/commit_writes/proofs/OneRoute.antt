@@ -1,5 +1,5 @@
 -- The commit of one route into a blank device of eight slots: one write, of slot 3; and writes that are no commit's.
-use Rattle.std.proofs.Common.{◌≡◌, ◌<◌, ℕ, List, [], ◌∷◌, ◌++◌, take, None, Some, Contains, inl, inr, replicate, arith, refl, sym, ap}
+use Rattle.std.proofs.Common.{◌≡◌, ◌<◌, ℕ, List, [], ◌∷◌, ◌++◌, take, None, Some, Contains, inl, inr, replicate, arith, refl, sym, ap, subst}
 use Rattle.std.proofs.lemmas.List.Elements.{Contains-append_cases}
 use Rattle.slot_order.specs.Order.{slot}
 use Rattle.slot_order.proofs.Lists.{contains_take, AllByRecursion-member}
@@ -19,7 +19,7 @@ use Rattle.tcam_device.specs.State.{State, blank, state_after}
 use Rattle.tcam_device.specs.Insertion.{Insertion}
 use Rattle.tcam_device.proofs.Wider.{empty_slot}
 use Rattle.commit_writes.specs.Bits.{no_bits}
-use Rattle.commit_writes.specs.Shape.{set_pieces, inserted_pieces, HasCommitShape}
+use Rattle.commit_writes.specs.Shape.{set_pieces, inserted_pieces, fresh_writes, due_of, HasShape}
 use Rattle.commit_writes.specs.Commit.{KeepsOrder}
 use Rattle.commit_writes.proofs.NoBits.{bit_writes-none}
 
@@ -30,15 +30,13 @@ ten = route_rule (ipv4_route_rank (ipv4_block 0x0a000000 8)) (ipv4_block 0x0a000
 abbrev made : List Write
 made = Slot 3 (Some (entry_of (whole_piece ten) ten.priority ten.result)) ∷ []
 
-shape : HasCommitShape Cover no_bits [] (Add ten ∷ []) (blank 8) made
+shape : HasShape (fresh_writes Cover no_bits [] (Add ten ∷ []) (blank 8)) (due_of Cover no_bits [] (Add ten ∷ [])) (blank 8) made
 shape =
-    record {
-      tables = [];
+    subst (λ front. HasShape front (due_of Cover no_bits [] (Add ten ∷ [])) (blank 8) made) (sym (bit_writes-none (blank 8))) record {
       inserted = made;
       rewritten = [];
       erased = [];
       parts = refl;
-      words = sym (bit_writes-none (blank 8));
       whole = refl;
       entries = refl;
       results = tt;

@@ -19,7 +19,7 @@ use Rattle.rule_store.proofs.PieceTests.{has_piece-from}
 use Rattle.rule_store.proofs.Additions.{new_rules, new_rules-member, member-new_rules, additions_distinct}
 use Rattle.rule_store.proofs.RulesAt.{cases_rule_at, rule_at-member}
 use Rattle.commit_writes.specs.Bits.{FieldBits, with_bits}
-use Rattle.commit_writes.specs.Shape.{set_pieces, inserted_pieces, rewritten_pieces, erased_pieces, common_pieces, dropped_pieces, names}
+use Rattle.commit_writes.specs.Shape.{set_pieces, inserted_pieces, rewritten_pieces, erased_pieces, common_pieces, names}
 use Rattle.commit_writes.proofs.Filters.{in_reverse, reverse_in}
 use Rattle.commit_writes.proofs.ModePieces.{pieces_bitless, pieces_after, has_piece-member}
 use Rattle.commit_writes.proofs.SetPieces.{HasPiece, LacksPiece, IsChoice, IsChosen, in_chosen, chosen_in, chosen_same, all_chosen}
@@ -40,10 +40,10 @@ common_chosen mode rules new piece member = go (replaced_rule rules new) member
     go None is = absurd (contains_none piece is)
     go (Some old) is = (in_filter (has_piece (pieces_of mode old)) (pieces_of mode new) piece is).0
 
-pub dropped_chosen : (mode : Mode) (batch : List Command) → IsChoice mode (λ old. dropped_pieces mode (rule_at (additions batch) old.priority) old)
+pub dropped_chosen : (mode : Mode) (batch : List Command) → IsChoice mode (λ old. added_pieces_over mode (rule_at (additions batch) old.priority) old)
 dropped_chosen mode batch old piece member = go (rule_at (additions batch) old.priority) member
   where
-    go : (new : Option Rule) → Contains (dropped_pieces mode new old) piece → Contains (pieces_of mode old) piece
+    go : (new : Option Rule) → Contains (added_pieces_over mode new old) piece → Contains (pieces_of mode old) piece
     go None is = is
     go (Some new) is = (in_filter (λ p. not (has_piece (pieces_of mode new) p)) (pieces_of mode old) piece is).0
 
@@ -75,11 +75,6 @@ over_from mode rules rule piece has lacks = elim (cases_rule_at rules rule.prior
       (filter_in (λ p. not (has_piece (pieces_of mode found.0) p)) (pieces_of mode rule) piece has
       (not_from_false _ (false_from_ne_true _ (λ same. lacks found.0 found.2 found.3 (has_piece-member mode found.0 piece (pieces_bitless mode rule piece has) same)))))
 ]
-
--- the pieces of a rule that goes are told likewise
-same_over : (mode : Mode) (other : Option Rule) (rule : Rule) → dropped_pieces mode other rule ≡ added_pieces_over mode other rule
-same_over mode None rule = refl
-same_over mode (Some other) rule = refl
 
 -- inserted are the pieces of the new set that the old one hasn't
 pub inserted_stays : (mode : Mode) (bits : FieldBits) (rules : List Rule) (batch : List Command) → IsSoundChange rules batch → (ranked : RankedPiece)
@@ -223,7 +218,7 @@ erased-is mode bits rules batch change ranked member = (
     removed = filter (λ rule. removes rule.priority batch) rules
 
     dropped : Rule → List Piece
-    dropped old = dropped_pieces mode (rule_at (additions batch) old.priority) old
+    dropped old = added_pieces_over mode (rule_at (additions batch) old.priority) old
 
     is : IsChosen bits dropped (reverse removed) ranked
     is = in_chosen bits dropped (reverse removed) ranked member
@@ -232,7 +227,7 @@ erased-is mode bits rules batch change ranked member = (
     goes = in_filter (λ rule. removes rule.priority batch) rules is.rule (in_reverse removed is.rule is.member)
 
     has_over : Contains (added_pieces_over mode (rule_at (additions batch) is.rule.priority) is.rule) is.piece
-    has_over = subst (λ pieces. Contains pieces is.piece) (same_over mode (rule_at (additions batch) is.rule.priority) is.rule) is.has
+    has_over = is.has
 
     lacks : LacksPiece (set_pieces mode bits (set_after rules batch)) ranked
     lacks other new piece_is rank_is =
@@ -249,16 +244,15 @@ erased-is mode bits rules batch change ranked member = (
 pub erased_from : (mode : Mode) (bits : FieldBits) (rules : List Rule) (batch : List Command) → (ranked : RankedPiece) → Contains (set_pieces mode bits rules) ranked
     → LacksPiece (set_pieces mode bits (set_after rules batch)) ranked → Contains (erased_pieces mode bits rules batch) ranked
 erased_from mode bits rules batch ranked member lacks =
-    chosen_in bits (λ old. dropped_pieces mode (rule_at (additions batch) old.priority) old) (reverse removed) ranked
+    chosen_in bits (λ old. added_pieces_over mode (rule_at (additions batch) old.priority) old) (reverse removed) ranked
     (record {
       rule = is.rule;
       member = reverse_in removed is.rule (filter_in (λ rule. removes rule.priority batch) rules is.rule is.member goes);
       rank_is = is.rank_is;
       result_is = is.result_is;
       piece = is.piece;
-      has = subst (λ pieces. Contains pieces is.piece) (sym (same_over mode (rule_at (additions batch) is.rule.priority) is.rule))
-          (over_from mode (additions batch) is.rule is.piece is.has
-          (λ other added same has. never other ((set_after-member rules batch other).1 (inl added)) (same ∙ sym is.rank_is) has));
+      has = over_from mode (additions batch) is.rule is.piece is.has
+          (λ other added same has. never other ((set_after-member rules batch other).1 (inl added)) (same ∙ sym is.rank_is) has);
       piece_is = is.piece_is;
     })
   where

@@ -23,8 +23,8 @@ use Rattle.tcam_device.specs.Insertion.{is_table_write, table_writes}
 use Rattle.tcam_device.proofs.Spans.{state_after-append}
 use Rattle.tcam_device.proofs.Wider.{all_take}
 use Rattle.commit_writes.specs.Bits.{FieldBits, bits_with, new_bits}
-use Rattle.commit_writes.specs.Shape.{set_pieces, inserted_pieces}
-use Rattle.commit_writes.specs.Commit.{IsSegment, old_pieces, new_pieces, insertion_writes}
+use Rattle.commit_writes.specs.Shape.{set_pieces, inserted_pieces, fresh_writes}
+use Rattle.commit_writes.specs.Commit.{IsSegment, insertion_writes}
 use Rattle.commit_writes.specs.Planned.{IsServedBy}
 use Rattle.commit_writes.specs.InFlight.{TestsLive, ServesLive}
 use Rattle.commit_writes.specs.Segments.{MayBegin}
@@ -33,7 +33,7 @@ use Rattle.commit_writes.proofs.BatchRules.{IsSoundChange}
 use Rattle.commit_writes.proofs.LiveBits.{chosen_live, tests_live}
 use Rattle.commit_writes.proofs.LiveRanges.{translated}
 use Rattle.commit_writes.specs.Serving.{AreTranslated}
-use Rattle.commit_writes.proofs.ServedTables.{IsBitsStart, fresh_writes, words_state, words_done, words_keep, tables_serve}
+use Rattle.commit_writes.proofs.ServedTables.{IsBitsStart, words_state, words_done, words_keep, tables_serve}
 use Rattle.commit_writes.proofs.SetPieces.{set_served}
 use Rattle.commit_writes.proofs.SlotsBehind.{IsCutAtSlots, cut_at_slots}
 use Rattle.commit_writes.proofs.SlotWrites.{LeavesTables, tables_left}
@@ -110,24 +110,24 @@ module _ (mode : Mode) (bits : FieldBits) (rules : List Rule) (batch : List Comm
       (tables_left behind (take (n - length tables) cut.rest) (all_take (λ write. IsFalse (is_table_write write)) (n - length tables) cut.rest cut.slots))
 
   -- the pieces that stand then test bits that are live meanwhile
-  of_row : (ranked : RankedPiece) → Contains (old_pieces mode bits rules batch ++ inserted) ranked → IsServedBy behind ranked
+  of_row : (ranked : RankedPiece) → Contains (set_pieces mode (bits_with mode rules batch bits) rules ++ inserted) ranked → IsServedBy behind ranked
   of_row ranked member =
-      AllByRecursion-member (IsServedBy behind) (old_pieces mode bits rules batch ++ inserted) ranked
+      AllByRecursion-member (IsServedBy behind) (set_pieces mode (bits_with mode rules batch bits) rules ++ inserted) ranked
       (row_served mode during behind rules batch change (tables_serve mode bits rules batch state start)) member
 
-  of_old : (ranked : RankedPiece) → Contains (old_pieces mode bits rules batch) ranked → TestsLive during (entry_for ranked)
+  of_old : (ranked : RankedPiece) → Contains (set_pieces mode (bits_with mode rules batch bits) rules) ranked → TestsLive during (entry_for ranked)
   of_old ranked member =
-      tests_live during behind ranked (of_row ranked (Contains-append_left (old_pieces mode bits rules batch) inserted ranked member)) (chosen_live during (pieces_of mode) rules ranked member)
+      tests_live during behind ranked (of_row ranked (Contains-append_left (set_pieces mode (bits_with mode rules batch bits) rules) inserted ranked member)) (chosen_live during (pieces_of mode) rules ranked member)
 
   of_inserted : (ranked : RankedPiece) → Contains inserted ranked → TestsLive during (entry_for ranked)
   of_inserted ranked member =
-      tests_live during behind ranked (of_row ranked (Contains-append_right (old_pieces mode bits rules batch) inserted ranked member))
+      tests_live during behind ranked (of_row ranked (Contains-append_right (set_pieces mode (bits_with mode rules batch bits) rules) inserted ranked member))
       (chosen_live during (added_pieces mode rules) (fold with_rule [] (additions batch)) ranked member)
 
-  of_new : (ranked : RankedPiece) → Contains (new_pieces mode bits rules batch) ranked → TestsLive during (entry_for ranked)
+  of_new : (ranked : RankedPiece) → Contains (set_pieces mode (bits_with mode rules batch bits) (set_after rules batch)) ranked → TestsLive during (entry_for ranked)
   of_new ranked member =
       tests_live during behind ranked
-      (AllByRecursion-member (IsServedBy behind) (new_pieces mode bits rules batch) ranked (after_served mode during behind rules batch change (tables_serve mode bits rules batch state start)) member)
+      (AllByRecursion-member (IsServedBy behind) (set_pieces mode (bits_with mode rules batch bits) (set_after rules batch)) ranked (after_served mode during behind rules batch change (tables_serve mode bits rules batch state start)) member)
       (chosen_live during (pieces_of mode) (set_after rules batch) ranked member)
 
   late_tested : (n : ℕ) (at : ℕ) (entry : Entry) → slot (state_after state (take n made)).slots at ≡ Some entry → TestsLive during entry
@@ -140,7 +140,7 @@ module _ (mode : Mode) (bits : FieldBits) (rules : List Rule) (batch : List Comm
         let w = segment.order.inserting n within in
         let known = w.1.ordered.known at entry held in
         subst (TestsLive during) known.2
-        (elim (Contains-append_cases (old_pieces mode bits rules batch) (take w.0 inserted) known.0 known.1) [
+        (elim (Contains-append_cases (set_pieces mode (bits_with mode rules batch bits) rules) (take w.0 inserted) known.0 known.1) [
           | inl old ↦ of_old known.0 old
           | inr put ↦ let place = contains_take w.0 inserted known.0 put in of_inserted known.0 (place.0, place.2, place.3)
         ])

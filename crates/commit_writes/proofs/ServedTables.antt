@@ -17,19 +17,14 @@ use Rattle.range_bits.specs.LiveRanges.{LiveRanges, no_ranges, with_ranges, kept
 use Rattle.range_bits.proofs.FieldMaps.{IsFieldMap-no_ranges, no_range}
 use Rattle.range_bits.proofs.Given.{AreGiven}
 use Rattle.range_bits.proofs.Newer.{length-newly_live}
-use Rattle.tcam_device.specs.declared.Write.{Write}
 use Rattle.tcam_device.specs.State.{State, IsState, blank, blank_table, state_after}
 use Rattle.commit_writes.specs.Bits.{FieldBits, no_bits, bits_with, new_bits, bits_left}
-use Rattle.commit_writes.specs.Shape.{bit_writes}
+use Rattle.commit_writes.specs.Shape.{bit_writes, fresh_writes}
 use Rattle.commit_writes.specs.Serving.{AreServing, AreRangesOf, AreBitsOf, HaveFreeBits}
 use Rattle.commit_writes.proofs.BatchRules.{right_added}
 use Rattle.commit_writes.proofs.CodedRanges.{coded_with, coded_after}
 use Rattle.commit_writes.proofs.ServedRanges.{serves_on, fresh_given, serves_all, ranges_left}
 use Rattle.commit_writes.proofs.TableWords.{words_taken, IsState-on_the_way, words_written}
-
--- the writes of the words of a commit's new bits, and the state after them
-abbrev pub fresh_writes : Mode → FieldBits → List Rule → List Command → State → List Write
-fresh_writes mode bits rules batch state = bit_writes state (new_bits bits (bits_with mode rules batch bits))
 
 -- what is known where a commit begins: the tables serve the rules, and its new ranges fit the free bits
 pub record IsBitsStart (mode : Mode) (bits : FieldBits) (rules : List Rule) (batch : List Command) (state : State) : Type 0 where

@@ -1,5 +1,5 @@
 -- Behind its table words a commit writes slots alone.
-use Rattle.std.proofs.Common.{◌≡◌, Bool, true, false, List, [], ◌∷◌, ◌++◌, length, Some, None, refl, ◌∙◌, ap, subst, arith}
+use Rattle.std.proofs.Common.{◌≡◌, Bool, true, false, List, [], ◌∷◌, ◌++◌, length, Some, None, refl, ap, subst, arith}
 use Rattle.std.specs.Prelude.{flat_map, IsFalse}
 use Rattle.std.specs.List.{AllZip}
 use Rattle.slot_order.proofs.Lists.{all_append}
@@ -13,8 +13,7 @@ use Rattle.tcam_device.specs.declared.Write.TheVariants.{Slot, Table}
 use Rattle.tcam_device.specs.State.{State, apply, state_after}
 use Rattle.tcam_device.specs.Insertion.{Insertion, insertions_from, is_new, is_table_write, table_writes}
 use Rattle.commit_writes.specs.Bits.{FieldBits, bits_with, new_bits}
-use Rattle.commit_writes.specs.Shape.{HasCommitShape, Rewrites, Erases}
-use Rattle.commit_writes.proofs.ServedTables.{fresh_writes}
+use Rattle.commit_writes.specs.Shape.{HasShape, Rewrites, Erases, due_of, fresh_writes}
 use Rattle.commit_writes.proofs.SlotWrites.{AreToSlots, no_table}
 use Rattle.commit_writes.proofs.TableWrites.{bit_writes-tables, all_tables}
 
@@ -72,23 +71,22 @@ pub record IsCutAtSlots (tables made : List Write) : Type 0 where
   pub count : table_writes made ≡ length tables
 
 pub cut_at_slots : (mode : Mode) (bits : FieldBits) (rules : List Rule) (batch : List Command) (state : State) (made : List Write)
-    → HasCommitShape mode bits rules batch state made → IsCutAtSlots (fresh_writes mode bits rules batch state) made
+    → HasShape (fresh_writes mode bits rules batch state) (due_of mode (bits_with mode rules batch bits) rules batch) state made → IsCutAtSlots (fresh_writes mode bits rules batch state) made
 cut_at_slots mode bits rules batch state made shape =
     let tables = fresh_writes mode bits rules batch state in
     let rest = shape.inserted ++ (shape.rewritten ++ shape.erased) in
     let slots : AreToSlots rest =
     all_append IsToSlot shape.inserted (shape.rewritten ++ shape.erased)
-    (subst AreToSlots shape.whole (insertion_slots (state_after state shape.tables) [] (state_after state shape.tables) shape.inserted tt))
-    (all_append IsToSlot shape.rewritten shape.erased (rewrites_slots (state_after state (shape.tables ++ shape.inserted)) _ shape.rewritten shape.results) (erases_slots (state_after state (shape.tables ++ shape.inserted ++ shape.rewritten)) _ shape.erased shape.erases)) in
-    let parts : made ≡ tables ++ rest = shape.parts ∙ ap (λ ws. ws ++ rest) shape.words in
+    (subst AreToSlots shape.whole (insertion_slots (state_after state tables) [] (state_after state tables) shape.inserted tt))
+    (all_append IsToSlot shape.rewritten shape.erased (rewrites_slots (state_after state (tables ++ shape.inserted)) _ shape.rewritten shape.results) (erases_slots (state_after state (tables ++ shape.inserted ++ shape.rewritten)) _ shape.erased shape.erases)) in
     record {
       rest = rest;
-      parts = parts;
+      parts = shape.parts;
       slots = slots;
       count =
           let split = count_by-append is_table_write tables rest in
           let first = all_tables tables (bit_writes-tables state (new_bits bits (bits_with mode rules batch bits))) in
           let none = no_table rest slots in
-          let same = ap table_writes parts in
+          let same = ap table_writes shape.parts in
           omega arith;
     }

@@ -17,14 +17,13 @@ use Rattle.commit_writes.specs.declared.Done.{Done}
 use Rattle.commit_writes.specs.declared.Rewrite.{Rewrite}
 use Rattle.commit_writes.specs.Bits.{FieldBits, bits_with}
 use Rattle.commit_writes.specs.Routes.{prefix_lengths}
-use Rattle.commit_writes.specs.Shape.{set_pieces, inserted_pieces}
+use Rattle.commit_writes.specs.Shape.{set_pieces, inserted_pieces, fresh_writes}
 use Rattle.commit_writes.specs.Planned.{IdEntries, Planned, held_entry}
 use Rattle.commit_writes.specs.PlannedBatch.{batch_writes, IsPlannedBatch, IsPlannedSegment, AreNumbersOf}
 use Rattle.commit_writes.specs.Serving.{AreBitsOf, HaveFreeBits}
 use Rattle.commit_writes.proofs.BatchRules.{change_of}
 use Rattle.commit_writes.proofs.BatchRow.{row_of}
 use Rattle.commit_writes.proofs.Ordered.{planned_first}
-use Rattle.commit_writes.proofs.ServedTables.{fresh_writes}
 use Rattle.commit_writes.proofs.Front.{fresh_state, front_in_use, front_insertions, front_numbers, front_segment}
 use Rattle.commit_writes.proofs.WholeBatch.{slot_writes, slot_numbers, in_use}
 use Rattle.commit_writes.proofs.Wider.{IsPlannedSegment-padded}

@@ -17,8 +17,8 @@ use Rattle.tcam_device.proofs.WiderInsertions.{widened, insertions-padded, longe
 use Rattle.commit_writes.specs.declared.Done.{Done}
 use Rattle.commit_writes.specs.Bits.{FieldBits, bits_with}
 use Rattle.commit_writes.specs.Routes.{prefix_lengths}
-use Rattle.commit_writes.specs.Shape.{Stands, Rewrites, Erases, inserted_pieces, rewritten_pieces, erased_pieces, HasCommitShape}
-use Rattle.commit_writes.specs.Commit.{old_pieces, new_pieces, insertion_writes, HoldsInOrder, KeepsOrder, IsSegment, AreCounts}
+use Rattle.commit_writes.specs.Shape.{Stands, Rewrites, Erases, inserted_pieces, fresh_writes, Due, due_of, HasShape, set_pieces}
+use Rattle.commit_writes.specs.Commit.{insertion_writes, HoldsInOrder, KeepsOrder, IsSegment, AreCounts}
 use Rattle.commit_writes.specs.PlannedBatch.{IsPlannedSegment}
 
 -- writes within the first slots
@@ -49,52 +49,44 @@ rewrites more state pieces writes all = zip_wider (Rewrites state) (Rewrites (pa
 pub erases : (more : ℕ) (state : State) (pieces : List RankedPiece) (writes : List Write) → AllZip (Erases state) pieces writes → AllZip (Erases (padded more state)) pieces writes
 erases more state pieces writes all = zip_wider (Erases state) (Erases (padded more state)) (λ ranked write is. (is.0, stands more state is.0 ranked is.1, is.2)) pieces writes all
 
-pub HasCommitShape-padded : (more : ℕ) (mode : Mode) (bits : FieldBits) (rules : List Rule) (batch : List Command) (state : State) (writes : List Write)
-    → AreInUse state writes → HasCommitShape mode bits rules batch state writes → HasCommitShape mode bits rules batch (padded more state) writes
-HasCommitShape-padded more mode bits rules batch state writes inside shape = record {
-  tables = shape.tables;
+pub HasShape-padded : (more : ℕ) (front : List Write) (due : Due) (state : State) (writes : List Write)
+    → AreInUse state writes → HasShape front due state writes → HasShape front due (padded more state) writes
+HasShape-padded more front due state writes inside shape = record {
   inserted = shape.inserted;
   rewritten = shape.rewritten;
   erased = shape.erased;
   parts = shape.parts;
-  words = shape.words;
   whole = ap (λ (made : List Insertion). flat_map (λ (insertion : Insertion). insertion.writes) made) made
-      ∙ writes-widened more (insertions (state_after state shape.tables) shape.inserted) ∙ shape.whole;
+      ∙ writes-widened more (insertions (state_after state front) shape.inserted) ∙ shape.whole;
   entries = ap (λ (made : List Insertion). map (λ (insertion : Insertion). insertion.entry) made) made
-      ∙ entries-widened more (insertions (state_after state shape.tables) shape.inserted) ∙ shape.entries;
-  results = subst (λ (now : State). AllZip (Rewrites now) changed shape.rewritten) (sym (state_after-padded more state (shape.tables ++ shape.inserted) two))
-      (rewrites more (state_after state (shape.tables ++ shape.inserted)) changed shape.rewritten shape.results);
-  erases = subst (λ (now : State). AllZip (Erases now) gone shape.erased) (sym (state_after-padded more state (shape.tables ++ shape.inserted ++ shape.rewritten) three))
-      (erases more (state_after state (shape.tables ++ shape.inserted ++ shape.rewritten)) gone shape.erased shape.erases);
+      ∙ entries-widened more (insertions (state_after state front) shape.inserted) ∙ shape.entries;
+  results = subst (λ (now : State). AllZip (Rewrites now) due.rewritten shape.rewritten) (sym (state_after-padded more state (front ++ shape.inserted) two))
+      (rewrites more (state_after state (front ++ shape.inserted)) due.rewritten shape.rewritten shape.results);
+  erases = subst (λ (now : State). AllZip (Erases now) due.erased shape.erased) (sym (state_after-padded more state (front ++ shape.inserted ++ shape.rewritten) three))
+      (erases more (state_after state (front ++ shape.inserted ++ shape.rewritten)) due.erased shape.erased shape.erases);
 }
   where
-    changed : List RankedPiece
-    changed = rewritten_pieces mode (bits_with mode rules batch bits) rules batch
-
-    gone : List RankedPiece
-    gone = erased_pieces mode (bits_with mode rules batch bits) rules batch
-
-    all : AreInUse state (shape.tables ++ (shape.inserted ++ (shape.rewritten ++ shape.erased)))
+    all : AreInUse state (front ++ (shape.inserted ++ (shape.rewritten ++ shape.erased)))
     all = subst (AreInUse state) shape.parts inside
 
-    first : AreInUse state shape.tables
-    first = all_front (IsInUse (length state.slots)) shape.tables _ all
+    first : AreInUse state front
+    first = all_front (IsInUse (length state.slots)) front _ all
 
     later : AreInUse state (shape.inserted ++ (shape.rewritten ++ shape.erased))
-    later = all_back (IsInUse (length state.slots)) shape.tables _ all
+    later = all_back (IsInUse (length state.slots)) front _ all
 
-    two : AreInUse state (shape.tables ++ shape.inserted)
-    two = all_append (IsInUse (length state.slots)) shape.tables shape.inserted first (all_front (IsInUse (length state.slots)) shape.inserted _ later)
+    two : AreInUse state (front ++ shape.inserted)
+    two = all_append (IsInUse (length state.slots)) front shape.inserted first (all_front (IsInUse (length state.slots)) shape.inserted _ later)
 
-    three : AreInUse state (shape.tables ++ shape.inserted ++ shape.rewritten)
-    three = all_append (IsInUse (length state.slots)) (shape.tables ++ shape.inserted) shape.rewritten two
+    three : AreInUse state (front ++ shape.inserted ++ shape.rewritten)
+    three = all_append (IsInUse (length state.slots)) (front ++ shape.inserted) shape.rewritten two
         (all_front (IsInUse (length state.slots)) shape.rewritten shape.erased (all_back (IsInUse (length state.slots)) shape.inserted _ later))
 
-    made : insertions (state_after (padded more state) shape.tables) shape.inserted ≡ map (widened more) (insertions (state_after state shape.tables) shape.inserted)
+    made : insertions (state_after (padded more state) front) shape.inserted ≡ map (widened more) (insertions (state_after state front) shape.inserted)
     made =
-        ap (λ (now : State). insertions now shape.inserted) (state_after-padded more state shape.tables first)
-        ∙ insertions-padded more (state_after state shape.tables) shape.inserted
-        (subst (λ n. AllByRecursion (IsInUse n) shape.inserted) (sym (slots-after state shape.tables))
+        ap (λ (now : State). insertions now shape.inserted) (state_after-padded more state front first)
+        ∙ insertions-padded more (state_after state front) shape.inserted
+        (subst (λ n. AllByRecursion (IsInUse n) shape.inserted) (sym (slots-after state front))
         (all_front (IsInUse (length state.slots)) shape.inserted _ later))
 
 -- what is read of a mapped list is the image of what is read of the list
@@ -133,10 +125,10 @@ KeepsOrder-padded more mode bits rules batch state made inside keeps = record {
 }
   where
     first : ℕ → RankedPiece → Type 0
-    first k = Contains (old_pieces mode bits rules batch ++ take k (inserted_pieces mode (bits_with mode rules batch bits) rules batch))
+    first k = Contains (set_pieces mode (bits_with mode rules batch bits) rules ++ take k (inserted_pieces mode (bits_with mode rules batch bits) rules batch))
 
     new : RankedPiece → Type 0
-    new = Contains (new_pieces mode bits rules batch)
+    new = Contains (set_pieces mode (bits_with mode rules batch bits) (set_after rules batch))
 
     reached : (n : ℕ) → state_after (padded more state) (take n made) ≡ padded more (state_after state (take n made))
     reached n = state_after-padded more state (take n made) (all_take (IsInUse (length state.slots)) n made inside)
@@ -153,12 +145,11 @@ IsSegment-padded more mode bits rules batch state made inside segment = record {
   hitless = IsHitless-padded more rules (set_after rules batch) state made inside segment.hitless;
   turns = λ none. TurnsOnce-padded more rules (set_after rules batch) state made inside (segment.turns none);
   order = KeepsOrder-padded more mode bits rules batch state made inside segment.order;
-  shape = HasCommitShape-padded more mode bits rules batch state made inside segment.shape;
-  bound = λ chain bounds. subst (AreBoundedBy _) (sym (insertions-padded more state made inside)) (AreBoundedBy-widened more _ (insertions state made) (segment.bound chain bounds));
+  shape = HasShape-padded more (fresh_writes mode bits rules batch state) (due_of mode (bits_with mode rules batch bits) rules batch) state made inside segment.shape;
   tight = λ chain bounds. subst (AreBoundedBy _) (sym (insertions-padded more state made inside)) (AreBoundedBy-widened more _ (insertions state made) (segment.tight chain bounds));
 }
 
-pub AreCounts-padded : (more : ℕ) (state : State) (made : List Write) (counts : Done) → AreInUse state made → AreCounts state made counts → AreCounts (padded more state) made counts
+pub AreCounts-padded : (more : ℕ) (state : State) (made : List Write) (counts : Done) → AreInUse state made → AreCounts made (insertions state made) counts → AreCounts made (insertions (padded more state) made) counts
 AreCounts-padded more state made counts inside are = record {
   writes = are.writes;
   words = are.words;

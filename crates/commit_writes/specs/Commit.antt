@@ -1,5 +1,5 @@
 -- What an accepted commit writes, and its numbers.
-use Rattle.std.specs.Prelude.{◌≡◌, ℕ, ◌+◌, ◌≤◌, ◌++◌, IsFalse, Some, List, length, take, slice_get, flat_map, Contains, ◌⊎◌}
+use Rattle.std.specs.Prelude.{◌≡◌, ℕ, ◌+◌, ◌≤◌, ◌⊎◌, IsFalse, Some, List, ◌++◌, Contains, fold, length, map, max, take, slice_get, flat_map}
 use Rattle.rule_model.specs.declared.Rule.{Rule}
 use Rattle.rule_model.specs.RuleSet.{BoundsChains}
 use Rattle.rule_store.specs.declared.Mode.{Mode}
@@ -10,24 +10,17 @@ use Rattle.tcam_device.specs.declared.Write.{Write}
 use Rattle.tcam_device.specs.State.{State, state_after}
 use Rattle.tcam_device.specs.Order.{IsOrdered, ServesBits, StandsOnce, HasOneTwin}
 use Rattle.tcam_device.specs.Hitless.{IsHitless, TurnsOnce}
-use Rattle.tcam_device.specs.Insertion.{Insertion, insertions, longest_insertion, table_writes, IsGreatestSpan, IsWithinBound, IsWithinTightBound}
+use Rattle.tcam_device.specs.Insertion.{Insertion, insertions, table_writes, IsGreatestSpan, IsWithinTightBound}
 use Rattle.commit_writes.specs.declared.Done.{Done}
 use Rattle.commit_writes.specs.Bits.{FieldBits, bits_with}
-use Rattle.commit_writes.specs.Shape.{set_pieces, inserted_pieces, HasCommitShape}
+use Rattle.commit_writes.specs.Shape.{set_pieces, inserted_pieces, fresh_writes, due_of, HasShape}
 
--- the numbers are those of the writes, made from the state on
-pub record AreCounts (state : State) (made : List Write) (counts : Done) : Type 0 where
+-- the numbers are those of these writes, which have these insertions
+pub record AreCounts (made : List Write) (inserted : List Insertion) (counts : Done) : Type 0 where
   pub writes : counts.writes ≡ length made
   pub words : counts.words ≡ table_writes made
-  pub most : counts.most ≡ longest_insertion state made
-  pub span : IsGreatestSpan (insertions state made) counts.span
-
--- the pieces of the set before the commit and of the set after it, with the bits that are live meanwhile
-abbrev pub old_pieces : Mode → FieldBits → List Rule → List Command → List RankedPiece
-old_pieces mode bits rules batch = set_pieces mode (bits_with mode rules batch bits) rules
-
-abbrev pub new_pieces : Mode → FieldBits → List Rule → List Command → List RankedPiece
-new_pieces mode bits rules batch = set_pieces mode (bits_with mode rules batch bits) (set_after rules batch)
+  pub most : counts.most ≡ fold max 0 (map (λ insertion. length insertion.writes) inserted)
+  pub span : IsGreatestSpan inserted counts.span
 
 -- pieces on the way from some to others: each is one of either, and of a piece that both have, be it with another result,
 -- one is among them
@@ -67,11 +60,11 @@ pub record KeepsPieces (old inserted new : List RankedPiece) (state : State) (ma
   pub after : HoldsInOrder (state_after state made) (Contains new)
   pub once : StandsOnce (state_after state made) (Contains new)
 
--- so it goes from the pieces of the old set to those of the new one
+-- so it goes from the pieces of the old set to those of the new one, with the bits that are live meanwhile
 abbrev pub KeepsOrder : Mode → FieldBits → List Rule → List Command → State → List Write → Type 0
 KeepsOrder mode bits rules batch state made =
-    KeepsPieces (old_pieces mode bits rules batch) (inserted_pieces mode (bits_with mode rules batch bits) rules batch)
-    (new_pieces mode bits rules batch) state made
+    let during = bits_with mode rules batch bits in
+    KeepsPieces (set_pieces mode during rules) (inserted_pieces mode during rules batch) (set_pieces mode during (set_after rules batch)) state made
 
 -- no priority is both removed and given to a new rule
 abbrev pub ReplacesNone : List Command → Type 0
@@ -83,6 +76,5 @@ pub record IsSegment (mode : Mode) (bits : FieldBits) (rules : List Rule) (batch
   -- and where no rule is replaced no key goes back to its old answer
   pub turns : ReplacesNone batch → TurnsOnce rules (set_after rules batch) state made
   pub order : KeepsOrder mode bits rules batch state made
-  pub shape : HasCommitShape mode bits rules batch state made
-  pub bound : (chain : ℕ) → BoundsChains (rules ++ additions batch) chain → IsWithinBound chain (insertions state made)
+  pub shape : HasShape (fresh_writes mode bits rules batch state) (due_of mode (bits_with mode rules batch bits) rules batch) state made
   pub tight : (chain : ℕ) → BoundsChains (rules ++ additions batch) chain → IsWithinTightBound chain (insertions state made)

@@ -3,6 +3,7 @@ pub mod Proposal
 pub mod Serving
 pub mod Shape
 pub mod Commit
+pub mod Bounds
 pub mod Routes
 pub mod Planned
 pub mod PlannedBatch

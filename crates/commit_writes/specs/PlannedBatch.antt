@@ -1,5 +1,5 @@
 -- Commits of changes to a set of rules, as they are planned: insertions first, then new results, then erases.
-use Rattle.std.specs.Prelude.{◌≡◌, ℕ, Some, None, List, ◌++◌, Contains, flat_map, fold, length, map, slice_set, unwrap_or}
+use Rattle.std.specs.Prelude.{◌≡◌, ℕ, Some, None, List, [], ◌++◌, Contains, fold, length, map, slice_set, unwrap_or}
 use Rattle.std.specs.List.{AllByRecursion, AllZip}
 use Rattle.slot_pool.specs.Arrangement.{Slots, home_of}
 use Rattle.rule_model.specs.declared.Rule.{Rule}
@@ -14,7 +14,7 @@ use Rattle.placement.specs.declared.LivePiece.{LivePiece}
 use Rattle.placement.specs.Live.{without_id}
 use Rattle.tcam_device.specs.declared.Write.{Write}
 use Rattle.tcam_device.specs.declared.Write.TheVariants.{Slot}
-use Rattle.tcam_device.specs.State.{State, IsState, state_after}
+use Rattle.tcam_device.specs.State.{State, IsState}
 use Rattle.tcam_device.specs.Hitless.{IsHitless, TurnsOnce}
 use Rattle.tcam_device.specs.Insertion.{insertions, table_writes, IsUncrossed, IsWithinTightBound}
 use Rattle.commit_writes.specs.Proposal.{Proposal}
@@ -22,7 +22,7 @@ use Rattle.commit_writes.specs.declared.Done.{Done}
 use Rattle.commit_writes.specs.declared.Rewrite.{Rewrite}
 use Rattle.commit_writes.specs.Bits.{FieldBits}
 use Rattle.commit_writes.specs.Serving.{AreServing}
-use Rattle.commit_writes.specs.Shape.{Rewrites, Erases, set_pieces, inserted_pieces, rewritten_pieces, erased_pieces}
+use Rattle.commit_writes.specs.Shape.{set_pieces, inserted_pieces, rewritten_pieces, erased_pieces, due_of, HasShape}
 use Rattle.commit_writes.specs.Commit.{KeepsPieces, ReplacesNone, IsSegment, AreCounts}
 use Rattle.commit_writes.specs.Routes.{IsRoute, prefix_lengths}
 use Rattle.commit_writes.specs.Planned.{IdEntries, Planned, ArePlanned, AreArranged, AreEntriesOf, contents, entry_at, ranked_of, slots_after, planned_writes, longest_planned, greatest_planned}
@@ -84,17 +84,6 @@ pub record IsPlannedBatch (asked : Proposal) (state : State) (live : List LivePi
   pub rewrites_are : AllZip (IsRewriteOf live) (rewritten_pieces asked.mode asked.bits asked.rules asked.batch) rewrites
   pub erased_are : AllZip (IsIdOf live) (erased_pieces asked.mode asked.bits asked.rules asked.batch) erased
 
--- what the writes behind the tables' words are: insertions, new results, erases, as `HasCommitShape` has them
-pub record HasSlotShape (mode : Mode) (bits : FieldBits) (rules : List Rule) (batch : List Command) (state : State) (writes : List Write) : Type 0 where
-  pub inserted : List Write
-  pub rewritten : List Write
-  pub erased : List Write
-  pub parts : writes ≡ inserted ++ (rewritten ++ erased)
-  pub whole : flat_map (λ insertion. insertion.writes) (insertions state inserted) ≡ inserted
-  pub entries : map (λ insertion. insertion.entry) (insertions state inserted) ≡ map entry_for (inserted_pieces mode bits rules batch)
-  pub results : AllZip (Rewrites (state_after state inserted)) (rewritten_pieces mode bits rules batch) rewritten
-  pub erases : AllZip (Erases (state_after state (inserted ++ rewritten))) (erased_pieces mode bits rules batch) erased
-
 -- The writes of a commit behind those of the tables, with the bits that are live while it is made: hitless, in order, of
 -- their shape, and within the bounds, from a state whose tables serve the rules; none of them is to a table. Of routes no
 -- insertion crosses others, and none takes more writes than a prefix may have lengths.
@@ -102,7 +91,7 @@ pub record AreSlotWrites (mode : Mode) (bits : FieldBits) (rules : List Rule) (b
   pub hitless : IsHitless rules (set_after rules batch) state made
   pub turns : ReplacesNone batch → TurnsOnce rules (set_after rules batch) state made
   pub order : KeepsPieces (set_pieces mode bits rules) (inserted_pieces mode bits rules batch) (set_pieces mode bits (set_after rules batch)) state made
-  pub shape : HasSlotShape mode bits rules batch state made
+  pub shape : HasShape [] (due_of mode bits rules batch) state made
   pub tight : (chain : ℕ) → BoundsChains (rules ++ additions batch) chain → IsWithinTightBound chain (insertions state made)
   pub slots_only : table_writes made ≡ 0
   pub uncrossed : (version : IpVersion) → AllByRecursion (IsRoute version) rules → AllByRecursion (IsRoute version) (additions batch)
@@ -112,7 +101,7 @@ pub record AreSlotWrites (mode : Mode) (bits : FieldBits) (rules : List Rule) (b
 -- none takes more writes than a prefix may have lengths.
 pub record IsPlannedSegment (mode : Mode) (bits : FieldBits) (rules : List Rule) (batch : List Command) (state : State) (made : List Write) (counts : Done) : Type 0 where
   pub segment : IsSegment mode bits rules batch state made
-  pub numbers : AreCounts state made counts
+  pub numbers : AreCounts made (insertions state made) counts
   pub uncrossed : (version : IpVersion) → AllByRecursion (IsRoute version) rules → AllByRecursion (IsRoute version) (additions batch)
       → IsUncrossed (prefix_lengths version) (insertions state made)
 

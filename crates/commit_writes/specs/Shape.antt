@@ -3,7 +3,6 @@ use Rattle.std.specs.Prelude.{◌≡◌, ℕ, Bool, ◌==◌, IsTrue, Option, So
 use Rattle.std.specs.List.{list_any, filter_map, enumerate_from, AllZip}
 use Rattle.slot_order.specs.Order.{slot}
 use Rattle.rule_model.specs.declared.Rule.{Rule}
-use Rattle.rule_model.specs.RuleSet.{rule_at}
 use Rattle.rule_model.specs.declared.Piece.{Piece}
 use Rattle.rule_model.specs.declared.Field.{Field}
 use Rattle.rule_model.specs.declared.Field.TheVariants.{Src, Dst}
@@ -12,12 +11,12 @@ use Rattle.rule_model.specs.Entry.{RankedPiece, entry_for, same_match}
 use Rattle.rule_store.specs.declared.Mode.{Mode}
 use Rattle.rule_store.specs.declared.Command.{Command}
 use Rattle.rule_store.specs.Batch.{named_priority, removes, additions, with_rule, set_after}
-use Rattle.rule_store.specs.Verdict.{pieces_of, has_piece, fresh_pieces, replaced_rule, added_pieces}
+use Rattle.rule_store.specs.Verdict.{pieces_of, has_piece, replaced_rule, added_pieces}
 use Rattle.range_bits.specs.LiveRanges.{LiveRanges, word_for}
 use Rattle.tcam_device.specs.declared.Write.{Write}
 use Rattle.tcam_device.specs.declared.Write.TheVariants.{Slot, Table}
 use Rattle.tcam_device.specs.State.{State, state_after}
-use Rattle.tcam_device.specs.Insertion.{insertions}
+use Rattle.tcam_device.specs.Insertion.{Insertion, insertions}
 use Rattle.commit_writes.specs.Bits.{FieldBits, bits_with, new_bits, with_bits}
 
 -- the write of a table's word at a port, where the word changes
@@ -32,6 +31,10 @@ field_writes field live table = filter_map (word_write field live) (enumerate_fr
 -- each table word that changes when the new bits are set exactly at their ranges' ports, the source table first
 abbrev pub bit_writes : State → FieldBits → List Write
 bit_writes state fresh = field_writes Src fresh.src state.src ++ field_writes Dst fresh.dst state.dst
+
+-- the words of a commit's new bits that differ from those of the state
+abbrev pub fresh_writes : Mode → FieldBits → List Rule → List Command → State → List Write
+fresh_writes mode bits rules batch state = bit_writes state (new_bits bits (bits_with mode rules batch bits))
 
 -- a piece of a rule, with its bits, the rule's priority and its result
 abbrev pub ranked_piece : FieldBits → Rule → Piece → RankedPiece
@@ -66,15 +69,10 @@ rewritten_pieces mode bits rules batch =
     flat_map (λ new. ranked_pieces bits new (common_pieces mode (replaced_rule rules new) new))
     (filter (names batch) (set_after rules batch))
 
--- the pieces of a removed rule that go: of a replaced one, those that the new rule hasn't
-abbrev pub dropped_pieces : Mode → Option Rule → Rule → List Piece
-dropped_pieces mode None old = pieces_of mode old
-dropped_pieces mode (Some new) old = fresh_pieces mode new old
-
--- the pieces that are erased, by rising priority and in their order
+-- the pieces that are erased, by rising priority and in their order: those of removed rules that no rule added there has
 abbrev pub erased_pieces : Mode → FieldBits → List Rule → List Command → List RankedPiece
 erased_pieces mode bits rules batch =
-    flat_map (λ old. ranked_pieces bits old (dropped_pieces mode (rule_at (additions batch) old.priority) old))
+    flat_map (λ old. ranked_pieces bits old (added_pieces mode (additions batch) old))
     (reverse (filter (λ rule. removes rule.priority batch) rules))
 
 -- the slot holds an entry of the piece, whatever its result
@@ -90,22 +88,37 @@ Rewrites state ranked write = (at : ℕ) × Stands state at ranked × (write ≡
 abbrev pub Erases : State → RankedPiece → Write → Type 0
 Erases state ranked write = (at : ℕ) × Stands state at ranked × (write ≡ Slot at None)
 
--- The writes of a commit that takes a set of rules over a sound batch, from a state on, with the bits live before it.
-pub record HasCommitShape (mode : Mode) (bits : FieldBits) (rules : List Rule) (batch : List Command) (state : State) (writes : List Write) : Type 0 where
-  pub tables : List Write
+-- What is to be done: pieces that are put in, pieces that get another result, with that, and pieces that are taken out, each in
+-- the order of their writes.
+pub record Due : Type 0 where
+  pub inserted : List RankedPiece
+  pub rewritten : List RankedPiece
+  pub erased : List RankedPiece
+
+-- all that a batch does to a set, with the bits that are live meanwhile
+abbrev pub due_of : Mode → FieldBits → List Rule → List Command → Due
+due_of mode during rules batch =
+    record {
+      inserted = inserted_pieces mode during rules batch;
+      rewritten = rewritten_pieces mode during rules batch;
+      erased = erased_pieces mode during rules batch;
+    }
+
+-- The writes that do what is due, from a state on, behind some first ones.
+pub record HasShape (front : List Write) (due : Due) (state : State) (writes : List Write) : Type 0 where
   pub inserted : List Write
   pub rewritten : List Write
   pub erased : List Write
-  pub parts : writes ≡ tables ++ (inserted ++ (rewritten ++ erased))
-  -- the words of the new bits
-  pub words : tables ≡ bit_writes state (new_bits bits (bits_with mode rules batch bits))
-  -- insertions and nothing else, one for each added piece
-  pub whole : flat_map (λ insertion. insertion.writes) (insertions (state_after state tables) inserted) ≡ inserted
-  pub entries : map (λ insertion. insertion.entry) (insertions (state_after state tables) inserted)
-      ≡ map entry_for (inserted_pieces mode (bits_with mode rules batch bits) rules batch)
-  -- one write for each piece that gets a new result
-  pub results : AllZip (Rewrites (state_after state (tables ++ inserted)))
-      (rewritten_pieces mode (bits_with mode rules batch bits) rules batch) rewritten
+  pub parts : writes ≡ front ++ (inserted ++ (rewritten ++ erased))
+  -- insertions and nothing else, one for each piece that is put in; the first writes belong to none
+  pub whole : flat_map (λ insertion. insertion.writes) (insertions (state_after state front) inserted) ≡ inserted
+  pub entries : map (λ insertion. insertion.entry) (insertions (state_after state front) inserted) ≡ map entry_for due.inserted
+  -- one write for each piece that gets another result
+  pub results : AllZip (Rewrites (state_after state (front ++ inserted))) due.rewritten rewritten
   -- one erase for each piece that goes
-  pub erases : AllZip (Erases (state_after state (tables ++ inserted ++ rewritten)))
-      (erased_pieces mode (bits_with mode rules batch bits) rules batch) erased
+  pub erases : AllZip (Erases (state_after state (front ++ inserted ++ rewritten))) due.erased erased
+
+-- the insertions of such writes, cut from behind the first ones on
+abbrev pub insertions_behind : {front : List Write} {due : Due} {state : State} {writes : List Write} → HasShape front due state writes → List Insertion
+insertions_behind {front = front} {state = state} shape =
+    insertions (state_after state front) (shape.inserted ++ (shape.rewritten ++ shape.erased))

@@ -1,4 +1,6 @@
-// What packets see of commits and of returns whose look-ups are two events: laws, in which there is nothing to run.
+// What packets see of commits and of returns whose look-ups are two events, and what follows from what a commit keeps: laws,
+// in which there is nothing to run.
+ghost use Rattle.commit_writes.specs.Bounds.{TightIsWithin, WordsLeaveSlots};
 ghost use Rattle.commit_writes.specs.InFlight.{AnswerAsLookUps, StayCurrent};
 ghost use Rattle.commit_writes.specs.Segments.{CommitsServe, ReturnsServe, SeesOldOrNew, SeesOldOrNewBack, CommitsComeToRest, RestsOnWiderDevices, ReturnsAreHitless};
 ghost use Rattle.commit_writes.specs.Undo.{PassesNoNewState, EndsWhereItBegan};
@@ -59,4 +61,14 @@ pub fn passes_no_new_state()
 /// A return ends in the state that it began in.
 pub fn ends_where_it_began()
     ensures { EndsWhereItBegan }
+{}
+
+/// Insertions within the bound that a commit keeps are within the greater one that holds where a move erases first, too.
+pub fn tight_is_within()
+    ensures { TightIsWithin }
+{}
+
+/// The words of a commit's new bits leave the slots as they are.
+pub fn words_leave_slots()
+    ensures { WordsLeaveSlots }
 {}

@@ -18,11 +18,11 @@ use Rattle.tcam_device.proofs.Shown.{ArePiecesOf, hit_as_pieces, ordered_shows}
 use Rattle.commit_writes.specs.Bits.{FieldBits, bits_with}
 use Rattle.commit_writes.specs.Planned.{IsServedBy}
 use Rattle.commit_writes.specs.Serving.{AreServing, AreTranslated}
-use Rattle.commit_writes.specs.Shape.{set_pieces}
+use Rattle.commit_writes.specs.Shape.{set_pieces, fresh_writes}
 use Rattle.commit_writes.proofs.BatchRules.{IsSoundChange, right_after, set_after-is}
 use Rattle.commit_writes.proofs.KeptBits.{pieces_same}
 use Rattle.commit_writes.proofs.LiveBits.{HasLiveBits, chosen_live}
-use Rattle.commit_writes.proofs.ServedTables.{IsBitsStart, fresh_writes, tables_serve}
+use Rattle.commit_writes.proofs.ServedTables.{IsBitsStart, tables_serve}
 use Rattle.commit_writes.proofs.SetPieces.{set_pieces-of}
 use Rattle.readback.specs.Tasks.{CommitPieces, commit_pieces, Task, Insert, IsStanding, stands_in}
 use Rattle.readback.specs.Stage.{IsCommitAt}

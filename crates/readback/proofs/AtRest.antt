@@ -22,7 +22,7 @@ use Rattle.commit_writes.specs.Bits.{FieldBits, bits_with, bits_left}
 use Rattle.commit_writes.specs.Planned.{IdEntries, Planned, contents, with_slots, slots_after}
 use Rattle.commit_writes.specs.PlannedBatch.{batch_writes, rewritten_entries, erased_slots}
 use Rattle.commit_writes.specs.Segments.{IsAtRest}
-use Rattle.commit_writes.specs.Shape.{set_pieces}
+use Rattle.commit_writes.specs.Shape.{set_pieces, fresh_writes}
 use Rattle.commit_writes.proofs.BatchRules.{right_after, set_after-is}
 use Rattle.commit_writes.proofs.KeptBits.{pieces_left}
 use Rattle.commit_writes.proofs.Mirror.{IsOrdered_same}
@@ -35,7 +35,7 @@ use Rattle.readback.specs.Going.{twin_writes}
 use Rattle.readback.specs.Laws.{PassesStages}
 use Rattle.readback.proofs.Shows.{stage_ordered, arrived}
 use Rattle.readback.specs.Ending.{LeadsOn, PlannedRestartsLeadOn, PlannedRestartsComeToRest}
-use Rattle.readback.specs.PlannedRest.{rest_words, restart_writes}
+use Rattle.readback.specs.PlannedRest.{restart_writes}
 use Rattle.readback.specs.Restart.{IsPlannedRestart}
 use Rattle.readback.proofs.BegunRests.{Begun, new_of, facts, leads}
 use Rattle.readback.proofs.Ending.{rest_state, rest_entries}
@@ -76,7 +76,7 @@ module _ (device_slots : ℕ) (mode : Mode) (bits : FieldBits) (rules : List Rul
   p = commit_pieces mode bits rules batch
 
   abbrev tables : List Write
-  tables = rest_words mode bits rules batch state
+  tables = fresh_writes mode bits rules batch state
 
   abbrev slot_part : List Write
   slot_part = batch_writes entries slots planned rewrites erased

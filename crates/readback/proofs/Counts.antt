@@ -1,5 +1,5 @@
 -- The numbers of a planned restart are those of its plan, and of routes it crosses nothing.
-use Rattle.std.proofs.Common.{◌≡◌, ℕ, ◌-◌, Option, List, ◌++◌, length, map, fold, max, sym, ◌∙◌, subst, ap}
+use Rattle.std.proofs.Common.{◌≡◌, ℕ, ◌-◌, Option, List, ◌++◌, length, map, fold, max, append_assoc, sym, ◌∙◌, subst, ap}
 use Rattle.std.specs.List.{AllByRecursion}
 use Rattle.std.proofs.lemmas.List.{append_cancel_left}
 use Rattle.slot_pool.specs.Arrangement.{Slots}
@@ -21,14 +21,16 @@ use Rattle.commit_writes.specs.Bits.{FieldBits}
 use Rattle.commit_writes.specs.Planned.{IdEntries, Planned, greatest_planned}
 use Rattle.commit_writes.specs.PlannedBatch.{AreNumbersOf, batch_writes}
 use Rattle.commit_writes.specs.Routes.{IsRoute, prefix_lengths}
+use Rattle.commit_writes.specs.Shape.{fresh_writes, HasShape, insertions_behind}
+use Rattle.commit_writes.specs.Commit.{AreCounts}
 use Rattle.readback.specs.Halt.{halt_at, parts_as_planned}
 use Rattle.readback.specs.Tasks.{Task}
-use Rattle.readback.specs.Going.{HasRestShape, AreRestCounts, twin_writes, rest_insertions}
-use Rattle.readback.specs.PlannedRest.{rest_words, restart_writes}
+use Rattle.readback.specs.Going.{due_in, restart_front, twin_writes}
+use Rattle.readback.specs.PlannedRest.{restart_writes}
 use Rattle.readback.specs.Restart.{IsPlannedRestart, PlannedRestartsAreCounted, PlannedRestartsCrossNothing}
 use Rattle.readback.proofs.BegunRests.{Begun}
 use Rattle.readback.proofs.PlannedRests.{in_use, uncrossed, longest, greatest}
-use Rattle.readback.proofs.Restart.{reached, shape}
+use Rattle.readback.proofs.Restart.{reached}
 use Rattle.readback.proofs.Started.{started}
 
 module _ (device_slots : ℕ) (mode : Mode) (bits : FieldBits) (rules : List Rule) (batch : List Command) (state : State) (done left : List Task) (twin : Option ℕ)
@@ -44,7 +46,7 @@ module _ (device_slots : ℕ) (mode : Mode) (bits : FieldBits) (rules : List Rul
   wide = on_device device_slots state
 
   abbrev tables : List Write
-  tables = rest_words mode bits rules batch state
+  tables = fresh_writes mode bits rules batch state
 
   abbrev slot_part : List Write
   slot_part = batch_writes entries slots planned rewrites erased
@@ -59,37 +61,33 @@ module _ (device_slots : ℕ) (mode : Mode) (bits : FieldBits) (rules : List Rul
   there_is = reached device_slots mode bits rules batch state done left twin live slots entries planned rewrites erased plan
 
   -- whichever way the writes are taken apart, their insertions are those of the planned ones
-  same_insertions : (own : HasRestShape mode bits rules batch wide left twin writes) → rest_insertions own ≡ insertions there slot_part
+  same_insertions : (own : HasShape (restart_front mode bits rules batch wide twin) (due_in left) wide writes) → insertions_behind own ≡ insertions there slot_part
   same_insertions own =
       let rest = own.inserted ++ (own.rewritten ++ own.erased) in
-      let words : own.tables ≡ tables = own.words in
-      let parts : tables ++ (twin_writes twin ++ slot_part) ≡ tables ++ (twin_writes twin ++ rest) = own.parts ∙ ap (λ (some : List Write). some ++ (twin_writes twin ++ rest)) words in
-      let same : slot_part ≡ rest = append_cancel_left (twin_writes twin) slot_part rest (append_cancel_left tables (twin_writes twin ++ slot_part) (twin_writes twin ++ rest) parts) in
-      ap (λ (some : List Write). insertions (state_after wide (some ++ twin_writes twin)) rest) words
-      ∙ (ap (λ (now : State). insertions now rest) there_is ∙ ap (insertions there) (sym same))
+      let front = tables ++ twin_writes twin in
+      let same : slot_part ≡ rest = append_cancel_left front slot_part rest (append_assoc tables (twin_writes twin) slot_part ∙ own.parts) in
+      ap (λ (now : State). insertions now rest) there_is ∙ ap (insertions there) (sym same)
 
-  counted : (counts : Done) → AreNumbersOf writes planned counts → HasRestShape mode bits rules batch wide left twin writes → AreRestCounts mode bits rules batch wide left twin writes counts
+  counted : (counts : Done) → AreNumbersOf writes planned counts → (own : HasShape (restart_front mode bits rules batch wide twin) (due_in left) wide writes) → AreCounts writes (insertions_behind own) counts
   counted counts numbers own = record {
-    shape = own;
-    writes_are = numbers.writes_are;
+    writes = numbers.writes_are;
     words = numbers.words;
     most = numbers.most ∙ sym (ap (λ (all : List Insertion). fold max 0 (map (λ (one : Insertion). length one.writes) all)) (same_insertions own)
         ∙ (longest-padded more b.start slot_part (in_use b) ∙ longest b));
-    span = subst (λ span. IsGreatestSpan (rest_insertions own) span) (sym numbers.span)
+    span = subst (λ span. IsGreatestSpan (insertions_behind own) span) (sym numbers.span)
         (subst (λ (all : List Insertion). IsGreatestSpan all (greatest_planned planned)) (sym (same_insertions own ∙ insertions-padded more b.start slot_part (in_use b)))
         (IsGreatestSpan-widened more (insertions b.start slot_part) (greatest_planned planned) (greatest b)));
   }
 
   crosses_nothing : (version : IpVersion) → AllByRecursion (IsRoute version) rules → AllByRecursion (IsRoute version) (additions batch)
-      → (own : HasRestShape mode bits rules batch wide left twin writes) → IsUncrossed (prefix_lengths version) (rest_insertions own)
+      → (own : HasShape (restart_front mode bits rules batch wide twin) (due_in left) wide writes) → IsUncrossed (prefix_lengths version) (insertions_behind own)
   crosses_nothing version routes added own =
       subst (IsUncrossed (prefix_lengths version)) (sym (same_insertions own ∙ insertions-padded more b.start slot_part (in_use b)))
       (IsUncrossed-widened more (prefix_lengths version) (insertions b.start slot_part) (uncrossed b version routes added))
 
 pub restarts_counted : PlannedRestartsAreCounted
-restarts_counted device_slots mode bits rules batch state done left twin live slots entries planned rewrites erased counts plan numbers =
-    counted device_slots mode bits rules batch state done left twin live slots entries planned rewrites erased plan counts numbers
-    (shape device_slots mode bits rules batch state done left twin live slots entries planned rewrites erased plan)
+restarts_counted device_slots mode bits rules batch state done left twin live slots entries planned rewrites erased counts plan numbers own =
+    counted device_slots mode bits rules batch state done left twin live slots entries planned rewrites erased plan counts numbers own
 
 pub restarts_uncrossed : PlannedRestartsCrossNothing
 restarts_uncrossed device_slots mode bits rules batch state done left twin live slots entries planned rewrites erased version plan routes added own =

@@ -28,11 +28,11 @@ use Rattle.tcam_device.proofs.Wider.{slot-padded}
 use Rattle.commit_writes.specs.Bits.{FieldBits, bits_with}
 use Rattle.commit_writes.specs.Planned.{IdEntries, AreArranged, AreEntriesOf, entry_at, held_entry}
 use Rattle.commit_writes.specs.Serving.{AreServing}
-use Rattle.commit_writes.specs.Shape.{rewritten_pieces}
+use Rattle.commit_writes.specs.Shape.{rewritten_pieces, fresh_writes}
 use Rattle.commit_writes.proofs.BatchPieces.{inserted_once, rewritten_once}
 use Rattle.commit_writes.proofs.BatchRules.{IsSoundChange}
 use Rattle.commit_writes.proofs.Filters.{all_from}
-use Rattle.commit_writes.proofs.ServedTables.{fresh_writes, tables_serve}
+use Rattle.commit_writes.proofs.ServedTables.{tables_serve}
 use Rattle.commit_writes.proofs.SetPieces.{pieces_once}
 use Rattle.readback.specs.Tasks.{CommitPieces, Task, commit_pieces, known_pieces, changes_result, is_told_in, IsTold}
 use Rattle.readback.specs.Stage.{IsCommitAt}

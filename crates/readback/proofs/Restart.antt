@@ -17,25 +17,25 @@ use Rattle.placement.specs.declared.LivePiece.{LivePiece}
 use Rattle.tcam_device.specs.declared.Write.{Write}
 use Rattle.tcam_device.specs.State.{State, IsState, state_after, on_device}
 use Rattle.tcam_device.specs.Insertion.{Insertion, insertions, is_table_write, AreBoundedBy, IsWithinTightBound}
-use Rattle.tcam_device.proofs.Spans.{state_after-append, wide_from_tight}
+use Rattle.tcam_device.proofs.Spans.{state_after-append}
 use Rattle.tcam_device.proofs.Wider.{padded, all_take, state_after-padded}
 use Rattle.tcam_device.proofs.WiderInsertions.{insertions-padded, AreBoundedBy-widened}
 use Rattle.commit_writes.specs.Proposal.{proposal}
 use Rattle.commit_writes.specs.declared.Rewrite.{Rewrite}
 use Rattle.commit_writes.specs.Bits.{FieldBits}
-use Rattle.commit_writes.specs.Shape.{Rewrites, Erases}
+use Rattle.commit_writes.specs.Shape.{Rewrites, Erases, fresh_writes, HasShape, insertions_behind}
 use Rattle.commit_writes.specs.Planned.{IdEntries, Planned}
 use Rattle.commit_writes.specs.PlannedBatch.{batch_writes}
 use Rattle.commit_writes.proofs.ServedTables.{IsBitsStart, words_state}
 use Rattle.commit_writes.proofs.SlotWrites.{AreToSlots, batch_slots}
 use Rattle.readback.specs.Halt.{halt_at, parts_as_planned}
 use Rattle.readback.specs.Tasks.{Task, CommitPieces, commit_pieces}
-use Rattle.readback.specs.Going.{GoesOn, HasRestShape, twin_writes, inserted_by, rewritten_by, erased_by, rest_insertions}
+use Rattle.readback.specs.Going.{GoesOn, due_in, restart_front, twin_writes, inserted_by, rewritten_by, erased_by}
 use Rattle.readback.specs.Laws.{KeepsRest, PassesStages}
 use Rattle.readback.proofs.Begun.{begun}
 use Rattle.readback.proofs.Rest.{AreRest}
 use Rattle.readback.proofs.Stages.{stages_answer, last_stages_answer, rests_pass}
-use Rattle.readback.specs.PlannedRest.{rest_words, restart_writes, PlannedRestsPassStages}
+use Rattle.readback.specs.PlannedRest.{restart_writes, PlannedRestsPassStages}
 use Rattle.readback.specs.Restart.{IsPlannedRestart, PlannedRestartsGoOn}
 use Rattle.readback.proofs.BegunRests.{Begun}
 use Rattle.readback.proofs.PlannedRests.{inserting, telling, erasing, rest, in_use, keeps, tight}
@@ -58,7 +58,7 @@ module _ (device_slots : ℕ) (mode : Mode) (bits : FieldBits) (rules : List Rul
   p = commit_pieces mode bits rules batch
 
   abbrev tables : List Write
-  tables = rest_words mode bits rules batch state
+  tables = fresh_writes mode bits rules batch state
 
   abbrev slot_part : List Write
   slot_part = batch_writes entries slots planned rewrites erased
@@ -70,16 +70,17 @@ module _ (device_slots : ℕ) (mode : Mode) (bits : FieldBits) (rules : List Rul
   abbrev there : State
   there = padded more b.start
 
-  pub reached : state_after (on_device device_slots state) (rest_words mode bits rules batch state ++ twin_writes twin)
+  pub reached : state_after (on_device device_slots state) (fresh_writes mode bits rules batch state ++ twin_writes twin)
       ≡ padded (device_slots - length state.slots) (started device_slots mode bits rules batch state done left twin live slots entries planned rewrites erased plan).start
   reached =
       state_after-padded more state (tables ++ twin_writes twin) (front_inside device_slots mode bits rules batch state done left twin live slots entries planned rewrites erased plan)
       ∙ ap (padded more) (state_after-append state tables (twin_writes twin))
 
+  behind_front : (some : List Write) → state_after wide (tables ++ twin_writes twin ++ some) ≡ state_after there some
+  behind_front some = state_after-append wide (tables ++ twin_writes twin) some ∙ ap (λ (now : State). state_after now some) reached
+
   pub behind_all : (some : List Write) → state_after wide (tables ++ (twin_writes twin ++ some)) ≡ state_after there some
-  behind_all some =
-      ap (state_after wide) (sym (append_assoc tables (twin_writes twin) some))
-      ∙ (state_after-append wide (tables ++ twin_writes twin) some ∙ ap (λ (now : State). state_after now some) reached)
+  behind_all some = ap (state_after wide) (sym (append_assoc tables (twin_writes twin) some)) ∙ behind_front some
 
   wide_rest : AreRest p there left (inserting b) (telling b) (erasing b)
   wide_rest = AreRest-padded more p b.start left (inserting b) (telling b) (erasing b) (in_use b) (rest b)
@@ -87,19 +88,17 @@ module _ (device_slots : ℕ) (mode : Mode) (bits : FieldBits) (rules : List Rul
   wide_keeps : KeepsRest (length slots) p there left (inserting b)
   wide_keeps = KeepsRest-padded more p b.start left (inserting b) (telling b) (erasing b) (in_use b) (length slots) (keeps b)
 
-  pub shape : HasRestShape mode bits rules batch (on_device device_slots state) left twin (restart_writes (proposal mode bits rules batch) state twin entries slots planned rewrites erased)
+  pub shape : HasShape (restart_front mode bits rules batch (on_device device_slots state) twin) (due_in left) (on_device device_slots state) (restart_writes (proposal mode bits rules batch) state twin entries slots planned rewrites erased)
   shape = record {
-    tables = tables;
     inserted = inserting b;
     rewritten = telling b;
     erased = erasing b;
-    parts = refl;
-    words = refl;
+    parts = sym (append_assoc tables (twin_writes twin) slot_part);
     whole = subst (λ (now : State). flat_map (λ (one : Insertion). one.writes) (insertions now (inserting b)) ≡ inserting b) (sym reached) wide_rest.whole;
     entries = subst (λ (now : State). map (λ (one : Insertion). one.entry) (insertions now (inserting b)) ≡ map entry_for (filter_map inserted_by left)) (sym reached) wide_rest.entries;
-    results = subst (λ (now : State). AllZip (Rewrites now) (filter_map rewritten_by left) (telling b)) (sym (behind_all (inserting b))) wide_rest.results;
+    results = subst (λ (now : State). AllZip (Rewrites now) (filter_map rewritten_by left) (telling b)) (sym (behind_front (inserting b))) wide_rest.results;
     erases = subst (λ (now : State). AllZip (Erases now) (filter_map erased_by left) (erasing b))
-        (sym (behind_all (inserting b ++ telling b) ∙ state_after-append there (inserting b) (telling b))) wide_rest.erases;
+        (sym (state_after-append wide (tables ++ twin_writes twin ++ inserting b) (telling b) ∙ ap (λ (now : State). state_after now (telling b)) (behind_front (inserting b)))) wide_rest.erases;
   }
 
   wide_is : IsState (length wide.slots) wide
@@ -110,7 +109,7 @@ module _ (device_slots : ℕ) (mode : Mode) (bits : FieldBits) (rules : List Rul
   passes = rests_pass (length slots) (length wide.slots) mode bits rules batch wide done left twin writes plan.can wide_is plan.stage plan.is_twin shape
       (subst (λ (now : State). KeepsRest (length slots) p now left (inserting b)) (sym reached) wide_keeps)
 
-  pub within : (chain : ℕ) → BoundsChains (rules ++ additions batch) chain → IsWithinTightBound chain (rest_insertions shape)
+  pub within : (chain : ℕ) → BoundsChains (rules ++ additions batch) chain → IsWithinTightBound chain (insertions_behind shape)
   unfolding shape
   within chain bounds = subst (λ (now : State). IsWithinTightBound chain (insertions now slot_part)) (sym reached)
       (subst (AreBoundedBy _) (sym (insertions-padded more b.start slot_part (in_use b))) (AreBoundedBy-widened more _ (insertions b.start slot_part) (tight b chain bounds)))
@@ -151,7 +150,6 @@ module _ (device_slots : ℕ) (mode : Mode) (bits : FieldBits) (rules : List Rul
     ended = passes.ended;
     alone = passes.alone;
     after = last_stages_answer (length slots) (length wide.slots) mode bits rules batch (state_after wide writes) passes.ended.0 plan.can sized_last passes.ended.1;
-    bound = λ chain bounds. wide_from_tight chain (rest_insertions shape) (within chain bounds);
     tight = within;
   }
 

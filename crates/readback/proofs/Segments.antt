@@ -26,7 +26,7 @@ use Rattle.tcam_device.proofs.Spans.{state_after-append}
 use Rattle.tcam_device.proofs.Wider.{all_take}
 use Rattle.commit_writes.specs.Bits.{FieldBits, bits_with, new_bits}
 use Rattle.commit_writes.specs.InFlight.{ArePartOf}
-use Rattle.commit_writes.specs.Shape.{rewritten_pieces, erased_pieces, Stands, Rewrites, Erases}
+use Rattle.commit_writes.specs.Shape.{rewritten_pieces, erased_pieces, Stands, Rewrites, Erases, fresh_writes}
 use Rattle.commit_writes.specs.Commit.{IsSegment, insertion_writes}
 use Rattle.commit_writes.specs.Segments.{MayBegin}
 use Rattle.commit_writes.specs.Serving.{AreServing, AreTranslated}
@@ -37,7 +37,7 @@ use Rattle.commit_writes.proofs.KeptBits.{pieces_same}
 use Rattle.commit_writes.proofs.LiveRanges.{live_meanwhile}
 use Rattle.commit_writes.proofs.OnTheWay.{once_one}
 use Rattle.commit_writes.proofs.ServedLive.{change_begun, bits_begun, early, late}
-use Rattle.commit_writes.proofs.ServedTables.{IsBitsStart, fresh_writes, tables_serve}
+use Rattle.commit_writes.proofs.ServedTables.{IsBitsStart, tables_serve}
 use Rattle.commit_writes.proofs.SlotsBehind.{cut_at_slots}
 use Rattle.commit_writes.proofs.TableWords.{words_taken}
 use Rattle.readback.specs.Tasks.{CommitPieces, commit_pieces, known_pieces, changes_result, Insert, Rewrite, Erase, IsStanding}
@@ -223,20 +223,19 @@ module _ (slots : ℕ) (mode : Mode) (bits : FieldBits) (rules : List Rule) (bat
   facts_of = pieces_are mode bits rules batch change behind serving
 
   made_are : made ≡ tables ++ slot_part
-  made_are = segment.shape.parts ∙ ap (λ (words : List Write). words ++ slot_part) segment.shape.words
+  made_are = segment.shape.parts
 
   results_are : AllZip (Rewrites (state_after behind segment.shape.inserted)) (rewritten_pieces mode meanwhile rules batch) segment.shape.rewritten
   results_are = subst (λ (s : State). AllZip (Rewrites s) (rewritten_pieces mode meanwhile rules batch) segment.shape.rewritten)
-      (ap (λ (words : List Write). state_after state (words ++ segment.shape.inserted)) segment.shape.words ∙ state_after-append state tables segment.shape.inserted) segment.shape.results
+      (state_after-append state tables segment.shape.inserted) segment.shape.results
 
   erases_are : AllZip (Erases (state_after (state_after behind segment.shape.inserted) segment.shape.rewritten)) (erased_pieces mode meanwhile rules batch) segment.shape.erased
   erases_are = subst (λ (s : State). AllZip (Erases s) (erased_pieces mode meanwhile rules batch) segment.shape.erased)
-      (ap (λ (words : List Write). state_after state ((words ++ segment.shape.inserted) ++ segment.shape.rewritten)) segment.shape.words
-      ∙ (state_after-append state (tables ++ segment.shape.inserted) segment.shape.rewritten
-      ∙ ap (λ s. state_after s segment.shape.rewritten) (state_after-append state tables segment.shape.inserted))) segment.shape.erases
+      (state_after-append state (tables ++ segment.shape.inserted) segment.shape.rewritten
+      ∙ ap (λ s. state_after s segment.shape.rewritten) (state_after-append state tables segment.shape.inserted)) segment.shape.erases
 
   whole : flat_map (λ (one : Insertion). one.writes) (insertions behind segment.shape.inserted) ≡ segment.shape.inserted
-  whole = subst (λ (words : List Write). flat_map (λ (one : Insertion). one.writes) (insertions (state_after state words) segment.shape.inserted) ≡ segment.shape.inserted) segment.shape.words segment.shape.whole
+  whole = segment.shape.whole
 
   first : insertion_writes state made ≡ length tables + length segment.shape.inserted
   first =

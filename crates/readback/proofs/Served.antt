@@ -36,10 +36,11 @@ use Rattle.readback.specs.Halt.{halt_at, parts_as_planned}
 use Rattle.readback.specs.Tasks.{CommitPieces, Task, commit_pieces, stands_in, IsStanding}
 use Rattle.readback.specs.Stage.{IsStage}
 use Rattle.commit_writes.specs.Serving.{AreTranslated}
+use Rattle.commit_writes.specs.Shape.{fresh_writes}
 use Rattle.readback.specs.Going.{needs_drain, twin_writes}
 use Rattle.readback.proofs.Begun.{change_of}
 use Rattle.readback.proofs.Tables.{words_slots, all_right}
-use Rattle.readback.specs.PlannedRest.{rest_words, restart_writes}
+use Rattle.readback.specs.PlannedRest.{restart_writes}
 use Rattle.readback.specs.Restart.{IsPlannedRestart}
 use Rattle.readback.specs.Serving.{PlannedRestartsServe, stopped_ranges}
 use Rattle.readback.proofs.Restart.{passes, seam, sized, to_slots, wide_start}
@@ -58,7 +59,7 @@ module _ (device_slots : ℕ) (mode : Mode) (bits : FieldBits) (rules : List Rul
   p = commit_pieces mode bits rules batch
 
   abbrev tables : List Write
-  tables = rest_words mode bits rules batch state
+  tables = fresh_writes mode bits rules batch state
 
   abbrev slot_part : List Write
   slot_part = twin_writes twin ++ batch_writes entries slots planned rewrites erased

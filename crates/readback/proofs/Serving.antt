@@ -15,10 +15,11 @@ use Rattle.tcam_device.proofs.One.{same_match-same}
 use Rattle.commit_writes.specs.Bits.{FieldBits, bits_with}
 use Rattle.commit_writes.specs.InFlight.{TestsLive, ServesLive}
 use Rattle.commit_writes.specs.Serving.{AreServing, AreTranslated}
+use Rattle.commit_writes.specs.Shape.{fresh_writes}
 use Rattle.commit_writes.proofs.BatchRules.{IsSoundChange}
 use Rattle.commit_writes.proofs.KeptBits.{pieces_same}
 use Rattle.commit_writes.proofs.LiveBits.{HasLiveBits, chosen_live, tests_live}
-use Rattle.commit_writes.proofs.ServedTables.{IsBitsStart, fresh_writes, tables_serve}
+use Rattle.commit_writes.proofs.ServedTables.{IsBitsStart, tables_serve}
 use Rattle.readback.specs.Tasks.{CommitPieces, Task, commit_pieces, known_pieces, stands_in, IsStanding}
 use Rattle.readback.specs.Stage.{IsCommitAt}
 use Rattle.readback.proofs.Begun.{begun, change_of}

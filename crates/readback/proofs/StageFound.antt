@@ -20,11 +20,11 @@ use Rattle.tcam_device.specs.declared.Write.{Write}
 use Rattle.tcam_device.specs.State.{State, IsState, replay, state_after}
 use Rattle.commit_writes.specs.Bits.{FieldBits, bits_with}
 use Rattle.commit_writes.specs.Serving.{AreServing, AreTranslated}
-use Rattle.commit_writes.specs.Shape.{set_pieces, inserted_pieces, rewritten_pieces, erased_pieces}
+use Rattle.commit_writes.specs.Shape.{set_pieces, inserted_pieces, rewritten_pieces, erased_pieces, fresh_writes}
 use Rattle.commit_writes.proofs.BatchPieces.{rewritten_stays}
 use Rattle.commit_writes.proofs.BatchRules.{IsSoundChange}
 use Rattle.commit_writes.proofs.Filters.{all_members}
-use Rattle.commit_writes.proofs.ServedTables.{fresh_writes, tables_serve}
+use Rattle.commit_writes.proofs.ServedTables.{tables_serve}
 use Rattle.commit_writes.specs.Changes.{coded_by, during_of}
 use Rattle.readback.specs.declared.Stage.{Stage}
 use Rattle.readback.specs.declared.StageFault.{StageFault}

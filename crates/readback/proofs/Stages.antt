@@ -1,5 +1,5 @@
 -- The laws of stages.
-use Rattle.std.proofs.Common.{◌≡◌, ℕ, ◌+◌, ◌-◌, ◌≤◌, Some, None, Option, List, [], map, ◌∷◌, ◌++◌, length, take, refl, sym, ◌∙◌, subst, ap, inl, inr, arith}
+use Rattle.std.proofs.Common.{◌≡◌, ℕ, ◌+◌, ◌-◌, ◌≤◌, Some, None, Option, List, [], map, ◌∷◌, ◌++◌, length, take, append_assoc, refl, sym, ◌∙◌, subst, ap, inl, inr, arith}
 use Rattle.std.specs.Prelude.{flat_map, IsTrue, IsFalse}
 use Rattle.std.specs.List.{AllByRecursion, AllZip, filter_map}
 use Rattle.std.proofs.lemmas.Bool.{cases_lt, cases_order}
@@ -22,15 +22,15 @@ use Rattle.tcam_device.proofs.Wider.{all_take}
 use Rattle.commit_writes.specs.Bits.{FieldBits, bits_with}
 use Rattle.commit_writes.specs.InFlight.{ArePartOf}
 use Rattle.commit_writes.specs.Serving.{AreServing, AreTranslated}
-use Rattle.commit_writes.specs.Shape.{set_pieces, Rewrites, Erases}
+use Rattle.commit_writes.specs.Shape.{set_pieces, Rewrites, Erases, fresh_writes, HasShape}
 use Rattle.commit_writes.proofs.BatchRules.{IsSoundChange}
 use Rattle.commit_writes.proofs.LiveRanges.{live_meanwhile, translated}
-use Rattle.commit_writes.proofs.ServedTables.{IsBitsStart, fresh_writes, tables_serve}
+use Rattle.commit_writes.proofs.ServedTables.{IsBitsStart, tables_serve}
 use Rattle.commit_writes.proofs.SlotWrites.{AreToSlots, tables_left}
 use Rattle.commit_writes.proofs.SlotsBehind.{insertion_slots}
 use Rattle.readback.specs.Tasks.{Task, CommitPieces, commit_pieces, IsLeft}
 use Rattle.readback.specs.Stage.{IsCommitAt, IsStage, IsTwinSlot}
-use Rattle.readback.specs.Going.{HasRestShape, twin_writes, inserted_by, rewritten_by, erased_by}
+use Rattle.readback.specs.Going.{due_in, restart_front, twin_writes, inserted_by, rewritten_by, erased_by}
 use Rattle.readback.specs.Laws.{CanCommit, KeepsRest, StagesAnswerOldOrNew, LastStagesAnswerNew, SegmentsPassStages, PassesStages, RestsPassStages, OnePieceStandsTwice, TasksPartOnce}
 use Rattle.readback.proofs.Answers.{stage_answers, last_answers}
 use Rattle.readback.proofs.Begun.{begun, change_of}
@@ -62,8 +62,8 @@ twin_slots (Some at) = (refl, tt)
 
 module _ (slots device_slots : ℕ) (mode : Mode) (bits : FieldBits) (rules : List Rule) (batch : List Command) (state : State) (done left : List Task) (twin : Option ℕ) (writes : List Write)
     (can : CanCommit mode bits rules batch) (is : IsState device_slots state) (stage : IsCommitAt slots mode bits rules batch state done left) (is_twin : IsTwinSlot state.slots twin)
-    (shape : HasRestShape mode bits rules batch state left twin writes)
-    (keeps : KeepsRest slots (commit_pieces mode bits rules batch) (state_after state (shape.tables ++ twin_writes twin)) left shape.inserted) where
+    (shape : HasShape (restart_front mode bits rules batch state twin) (due_in left) state writes)
+    (keeps : KeepsRest slots (commit_pieces mode bits rules batch) (state_after state (restart_front mode bits rules batch state twin)) left shape.inserted) where
   abbrev during : FieldBits
   during = bits_with mode rules batch bits
 
@@ -98,20 +98,18 @@ module _ (slots device_slots : ℕ) (mode : Mode) (bits : FieldBits) (rules : Li
   facts = pieces_are mode bits rules batch change behind serving
 
   writes_are : writes ≡ tables ++ (twin_writes twin ++ slot_part)
-  writes_are = shape.parts ∙ ap (λ (words : List Write). words ++ (twin_writes twin ++ slot_part)) shape.words
+  writes_are = shape.parts ∙ append_assoc tables (twin_writes twin) slot_part
 
   -- the state behind the words and the erase of the twin
-  there : state_after state (shape.tables ++ twin_writes twin) ≡ start
-  there = ap (λ (words : List Write). state_after state (words ++ twin_writes twin)) shape.words ∙ state_after-append state tables (twin_writes twin)
+  there : state_after state (tables ++ twin_writes twin) ≡ start
+  there = state_after-append state tables (twin_writes twin)
 
   kept : KeepsRest slots p start left shape.inserted
   kept = subst (λ s. KeepsRest slots p s left shape.inserted) there keeps
 
   -- what stands behind three parts
-  behind_three : (more : List Write) → state_after state (shape.tables ++ (twin_writes twin ++ more)) ≡ state_after start more
-  behind_three more =
-      ap (λ (words : List Write). state_after state (words ++ (twin_writes twin ++ more))) shape.words
-      ∙ (state_after-append state tables (twin_writes twin ++ more) ∙ state_after-append behind (twin_writes twin) more)
+  behind_three : (more : List Write) → state_after state (tables ++ twin_writes twin ++ more) ≡ state_after start more
+  behind_three more = state_after-append state (tables ++ twin_writes twin) more ∙ ap (λ (now : State). state_after now more) there
 
   whole : flat_map (λ (one : Insertion). one.writes) (insertions start shape.inserted) ≡ shape.inserted
   whole = subst (λ s. flat_map (λ (one : Insertion). one.writes) (insertions s shape.inserted) ≡ shape.inserted) there shape.whole
@@ -122,7 +120,7 @@ module _ (slots device_slots : ℕ) (mode : Mode) (bits : FieldBits) (rules : Li
     entries = subst (λ s. map (λ (one : Insertion). one.entry) (insertions s shape.inserted) ≡ map entry_for (filter_map inserted_by left)) there shape.entries;
     results = subst (λ (s : State). AllZip (Rewrites s) (filter_map rewritten_by left) shape.rewritten) (behind_three shape.inserted) shape.results;
     erases = subst (λ (s : State). AllZip (Erases s) (filter_map erased_by left) shape.erased)
-        (behind_three (shape.inserted ++ shape.rewritten) ∙ state_after-append start shape.inserted shape.rewritten) shape.erases;
+        (state_after-append state (tables ++ twin_writes twin ++ shape.inserted) shape.rewritten ∙ ap (λ (now : State). state_after now shape.rewritten) (behind_three shape.inserted)) shape.erases;
   }
 
   -- the words lead to the same stage,

@@ -22,6 +22,7 @@ use Rattle.commit_writes.specs.declared.Rewrite.{Rewrite}
 use Rattle.commit_writes.specs.Bits.{FieldBits, bits_with}
 use Rattle.commit_writes.specs.Planned.{IdEntries, Planned}
 use Rattle.commit_writes.specs.Serving.{AreServing}
+use Rattle.commit_writes.specs.Shape.{fresh_writes}
 use Rattle.commit_writes.proofs.Front.{front_in_use}
 use Rattle.commit_writes.proofs.ServedTables.{IsBitsStart, tables_serve, words_done}
 use Rattle.commit_writes.proofs.SlotWrites.{AreToSlots, tables_left}
@@ -32,7 +33,7 @@ use Rattle.readback.specs.Going.{twin_writes}
 use Rattle.readback.proofs.Begun.{begun, change_of}
 use Rattle.readback.proofs.Rest.{untwinned_by}
 use Rattle.readback.proofs.Tables.{words_stage}
-use Rattle.readback.specs.PlannedRest.{IsPlannedRest, rest_words}
+use Rattle.readback.specs.PlannedRest.{IsPlannedRest}
 use Rattle.readback.specs.Restart.{IsPlannedRestart}
 use Rattle.readback.proofs.BegunRests.{Begun}
 use Rattle.readback.proofs.Same.{twin_on, stage_on}
@@ -86,7 +87,7 @@ module _ (device_slots : ℕ) (mode : Mode) (bits : FieldBits) (rules : List Rul
   p = commit_pieces mode bits rules batch
 
   abbrev tables : List Write
-  tables = rest_words mode bits rules batch state
+  tables = fresh_writes mode bits rules batch state
 
   abbrev behind : State
   behind = state_after state tables
@@ -160,5 +161,5 @@ module _ (device_slots : ℕ) (mode : Mode) (bits : FieldBits) (rules : List Rul
   }
 
   -- words and the erase of the twin write slots that there are
-  pub front_inside : AllByRecursion (IsInUse (length state.slots)) (rest_words mode bits rules batch state ++ twin_writes twin)
+  pub front_inside : AllByRecursion (IsInUse (length state.slots)) (fresh_writes mode bits rules batch state ++ twin_writes twin)
   front_inside = all_append (IsInUse (length state.slots)) tables (twin_writes twin) (front_in_use mode bits rules batch state (length state.slots)) (twin_inside state.slots twin narrow_twin)

@@ -21,6 +21,7 @@ use Rattle.commit_writes.specs.Commit.{IsSegment}
 use Rattle.commit_writes.specs.InFlight.{ArePartOf, AreCurrent, after_events}
 use Rattle.commit_writes.specs.PlannedBatch.{batch_writes}
 use Rattle.commit_writes.specs.Segments.{MayBegin, live_behind}
+use Rattle.commit_writes.specs.Shape.{fresh_writes}
 use Rattle.commit_writes.proofs.Actions.{commits_serve}
 use Rattle.commit_writes.proofs.Led.{same_part}
 use Rattle.commit_writes.proofs.Current.{are_current_part}
@@ -28,7 +29,7 @@ use Rattle.commit_writes.proofs.KeptBits.{pieces_same}
 use Rattle.commit_writes.proofs.LiveRanges.{live_meanwhile, same_ranges}
 use Rattle.commit_writes.proofs.Searches.{stay_current, state_after-events}
 use Rattle.commit_writes.proofs.ServedLive.{bits_begun, change_begun}
-use Rattle.commit_writes.proofs.ServedTables.{IsBitsStart, fresh_writes, tables_serve}
+use Rattle.commit_writes.proofs.ServedTables.{IsBitsStart, tables_serve}
 use Rattle.commit_writes.proofs.SlotsBehind.{IsCutAtSlots, cut_at_slots}
 use Rattle.readback.specs.Tasks.{CommitPieces, IsStanding, commit_pieces, stands_in}
 use Rattle.readback.specs.Going.{needs_drain, twin_writes}

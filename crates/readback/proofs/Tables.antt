@@ -17,12 +17,13 @@ use Rattle.tcam_device.specs.State.{State, state_after}
 use Rattle.tcam_device.specs.Order.{IsTranslated, HasOneTwin}
 use Rattle.commit_writes.specs.Bits.{FieldBits, bits_with, new_bits}
 use Rattle.commit_writes.proofs.Filters.{all_members}
-use Rattle.commit_writes.proofs.ServedTables.{IsBitsStart, fresh_writes, field_given}
+use Rattle.commit_writes.proofs.ServedTables.{IsBitsStart, field_given}
 use Rattle.commit_writes.proofs.TableWords.{words_taken}
 use Rattle.commit_writes.proofs.WordWrites.{IsMixed}
 use Rattle.readback.specs.Tasks.{CommitPieces, Task, Insert, Rewrite, Erase, IsStanding, IsDone, IsLeft}
 use Rattle.readback.specs.Stage.{IsStageAt}
 use Rattle.commit_writes.specs.Serving.{AreTranslated}
+use Rattle.commit_writes.specs.Shape.{fresh_writes}
 
 -- tasks are told by the slots alone
 same_done : (state next : State) → next.slots ≡ state.slots → (task : Task) → IsDone state task → IsDone next task

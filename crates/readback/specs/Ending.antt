@@ -16,10 +16,10 @@ use Rattle.commit_writes.specs.Bits.{FieldBits, bits_with, bits_left}
 use Rattle.commit_writes.specs.Planned.{IdEntries, Planned, AreEntriesOf, contents, with_slots, live_after, slots_after}
 use Rattle.commit_writes.specs.PlannedBatch.{rewritten_entries, erased_slots, erased_live}
 use Rattle.commit_writes.specs.Segments.{IsAtRest}
-use Rattle.commit_writes.specs.Shape.{set_pieces}
+use Rattle.commit_writes.specs.Shape.{set_pieces, fresh_writes}
 use Rattle.readback.specs.Halt.{halt_at, parts_as_planned}
 use Rattle.readback.specs.Tasks.{Task}
-use Rattle.readback.specs.PlannedRest.{rest_words, restart_writes}
+use Rattle.readback.specs.PlannedRest.{restart_writes}
 use Rattle.readback.specs.Restart.{IsPlannedRestart}
 
 -- Some writes write slots in use alone, and are no more than the plan allows. Behind them the ids that are left stand where
@@ -27,9 +27,9 @@ use Rattle.readback.specs.Restart.{IsPlannedRestart}
 -- they are those of the new set's pieces, each with its entry.
 pub record LeadsOn (asked : Proposal) (state : State) (live : List LivePiece) (slots : Slots) (entries : IdEntries) (planned : List Planned) (rewrites : List Rewrite) (erased : List ℕ) (writes : List Write) : Type 0 where
   pub in_use : AllByRecursion (IsInUse (length state.slots)) writes
-  pub few : length writes ≤ length (rest_words asked.mode asked.bits asked.rules asked.batch state) + 1 + (most_slots * (1 + most_slots) * length planned + length rewrites + length erased)
+  pub few : length writes ≤ length (fresh_writes asked.mode asked.bits asked.rules asked.batch state) + 1 + (most_slots * (1 + most_slots) * length planned + length rewrites + length erased)
   pub leads : state_after state writes
-      ≡ with_slots (state_after state (rest_words asked.mode asked.bits asked.rules asked.batch state)) (contents (rewritten_entries entries rewrites) (erased_slots (slots_after slots planned) erased))
+      ≡ with_slots (state_after state (fresh_writes asked.mode asked.bits asked.rules asked.batch state)) (contents (rewritten_entries entries rewrites) (erased_slots (slots_after slots planned) erased))
   pub entries_are : AreEntriesOf (set_pieces asked.mode (bits_with asked.mode asked.rules asked.batch asked.bits) (set_after asked.rules asked.batch)) (erased_live (live_after live planned) erased) (rewritten_entries entries rewrites)
 
 -- so do those of a planned restart,

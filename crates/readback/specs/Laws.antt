@@ -21,10 +21,11 @@ use Rattle.commit_writes.specs.Bits.{FieldBits}
 use Rattle.commit_writes.specs.Commit.{IsSegment}
 use Rattle.commit_writes.specs.Segments.{MayBegin}
 use Rattle.commit_writes.specs.Serving.{HaveFreeBits}
+use Rattle.commit_writes.specs.Shape.{HasShape}
 use Rattle.readback.specs.Tasks.{Task, Insert, CommitPieces, commit_pieces, IsStanding, IsDone, IsLeft}
 use Rattle.readback.specs.Stage.{IsCommitAt, IsStage, IsTwinSlot}
 use Rattle.readback.specs.Fault.{AreSetBits}
-use Rattle.readback.specs.Going.{HasRestShape, twin_writes}
+use Rattle.readback.specs.Going.{due_in, restart_front}
 
 -- A set of rules with right conditions and its bits, and a sound batch of changes to it whose new ranges fit the free bits.
 pub record CanCommit (mode : Mode) (bits : FieldBits) (rules : List Rule) (batch : List Command) : Type 0 where
@@ -89,8 +90,8 @@ abbrev pub RestsPassStages : Type 0
 RestsPassStages =
     (slots device_slots : ℕ) (mode : Mode) (bits : FieldBits) (rules : List Rule) (batch : List Command) (state : State) (done left : List Task) (twin : Option ℕ) (writes : List Write)
     → CanCommit mode bits rules batch → IsState device_slots state
-    → IsCommitAt slots mode bits rules batch state done left → IsTwinSlot state.slots twin → (shape : HasRestShape mode bits rules batch state left twin writes)
-    → KeepsRest slots (commit_pieces mode bits rules batch) (state_after state (shape.tables ++ twin_writes twin)) left shape.inserted
+    → IsCommitAt slots mode bits rules batch state done left → IsTwinSlot state.slots twin → (shape : HasShape (restart_front mode bits rules batch state twin) (due_in left) state writes)
+    → KeepsRest slots (commit_pieces mode bits rules batch) (state_after state (restart_front mode bits rules batch state twin)) left shape.inserted
     → PassesStages slots mode bits rules batch state writes
 
 -- in other words: of three slots no three hold one piece, and two pairs of slots that hold one piece are one pair

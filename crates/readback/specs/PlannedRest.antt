@@ -14,13 +14,13 @@ use Rattle.tcam_device.specs.State.{State, IsState, on_device}
 use Rattle.tcam_device.specs.Insertion.{IsWithinTightBound}
 use Rattle.commit_writes.specs.Proposal.{Proposal, proposal}
 use Rattle.commit_writes.specs.declared.Rewrite.{Rewrite}
-use Rattle.commit_writes.specs.Bits.{FieldBits, bits_with, new_bits}
-use Rattle.commit_writes.specs.Shape.{bit_writes}
+use Rattle.commit_writes.specs.Bits.{FieldBits}
+use Rattle.commit_writes.specs.Shape.{fresh_writes, insertions_behind, HasShape}
 use Rattle.commit_writes.specs.Planned.{IdEntries, Planned, ArePlanned, entry_at, ranked_of, contents}
 use Rattle.commit_writes.specs.PlannedBatch.{IsIdOf, IsRewriteOf, batch_writes}
 use Rattle.readback.specs.Tasks.{Task, commit_pieces}
 use Rattle.readback.specs.Stage.{IsCommitAt, IsTwinSlot}
-use Rattle.readback.specs.Going.{HasRestShape, inserted_by, rewritten_by, erased_by, rest_insertions, twin_writes}
+use Rattle.readback.specs.Going.{inserted_by, rewritten_by, erased_by, twin_writes, due_in, restart_front}
 use Rattle.readback.specs.Laws.{CanCommit, PassesStages}
 use Rattle.readback.specs.Standing.{HaveStandingIds}
 
@@ -36,21 +36,17 @@ pub record IsPlannedRest (asked : Proposal) (state : State) (left : List Task) (
   pub rewrites_are : AllZip (IsRewriteOf live) (filter_map rewritten_by left) rewrites
   pub erased_are : AllZip (IsIdOf live) (filter_map erased_by left) erased
 
--- the words of a commit's new bits that differ from those of the state
-abbrev pub rest_words : Mode → FieldBits → List Rule → List Command → State → List Write
-rest_words mode bits rules batch state = bit_writes state (new_bits bits (bits_with mode rules batch bits))
-
 -- all that is written at a restart: the table words that differ, the erase of the twin, and the planned rest
 abbrev pub restart_writes : Proposal → State → Option ℕ → IdEntries → Slots → List Planned → List Rewrite → List ℕ → List Write
 restart_writes asked state twin entries slots planned rewrites erased =
-    rest_words asked.mode asked.bits asked.rules asked.batch state ++ (twin_writes twin ++ batch_writes entries slots planned rewrites erased)
+    fresh_writes asked.mode asked.bits asked.rules asked.batch state ++ (twin_writes twin ++ batch_writes entries slots planned rewrites erased)
 
 -- From a state on, which is a stage without a twin, some writes have the shape of what is left, pass only stages, end with no
 -- task left, and each of their insertions is within the bound.
 pub record AreRestWrites (slots : ℕ) (mode : Mode) (bits : FieldBits) (rules : List Rule) (batch : List Command) (state : State) (left : List Task) (writes : List Write) : Type 0 where
-  pub shape : HasRestShape mode bits rules batch state left None writes
+  pub shape : HasShape (restart_front mode bits rules batch state None) (due_in left) state writes
   pub passes : PassesStages slots mode bits rules batch state writes
-  pub tight : (chain : ℕ) → BoundsChains (rules ++ additions batch) chain → IsWithinTightBound chain (rest_insertions shape)
+  pub tight : (chain : ℕ) → BoundsChains (rules ++ additions batch) chain → IsWithinTightBound chain (insertions_behind shape)
 
 -- so are those of a planned rest, on each device with the slots in use or more
 abbrev pub PlannedRestsPassStages : Type 0

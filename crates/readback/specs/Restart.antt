@@ -17,10 +17,12 @@ use Rattle.commit_writes.specs.Bits.{FieldBits}
 use Rattle.commit_writes.specs.Planned.{IdEntries, Planned}
 use Rattle.commit_writes.specs.PlannedBatch.{AreNumbersOf}
 use Rattle.commit_writes.specs.Routes.{IsRoute, prefix_lengths}
+use Rattle.commit_writes.specs.Shape.{insertions_behind, HasShape}
+use Rattle.commit_writes.specs.Commit.{AreCounts}
 use Rattle.readback.specs.Halt.{Halt, PlannedParts, halt_at, parts_as_planned}
 use Rattle.readback.specs.Tasks.{Task}
 use Rattle.readback.specs.Stage.{IsCommitAt, IsTwinSlot}
-use Rattle.readback.specs.Going.{GoesOn, HasRestShape, AreRestCounts, twin_writes, rest_insertions}
+use Rattle.readback.specs.Going.{GoesOn, due_in, restart_front, twin_writes}
 use Rattle.readback.specs.Laws.{CanCommit}
 use Rattle.readback.specs.PlannedRest.{IsPlannedRest, restart_writes}
 
@@ -49,7 +51,8 @@ PlannedRestartsAreCounted =
     (live : List LivePiece) (slots : Slots) (entries : IdEntries) (planned : List Planned) (rewrites : List Rewrite) (erased : List ℕ) (counts : Done)
     → IsPlannedRestart device_slots (proposal mode bits rules batch) state (halt_at done left twin) live slots entries (parts_as_planned planned rewrites erased)
     → AreNumbersOf (restart_writes (proposal mode bits rules batch) state twin entries slots planned rewrites erased) planned counts
-    → AreRestCounts mode bits rules batch (on_device device_slots state) left twin (restart_writes (proposal mode bits rules batch) state twin entries slots planned rewrites erased) counts
+    → (shape : HasShape (restart_front mode bits rules batch (on_device device_slots state) twin) (due_in left) (on_device device_slots state) (restart_writes (proposal mode bits rules batch) state twin entries slots planned rewrites erased))
+    → AreCounts (restart_writes (proposal mode bits rules batch) state twin entries slots planned rewrites erased) (insertions_behind shape) counts
 
 -- and of routes no insertion crosses others, and none takes more writes than a prefix may have lengths
 abbrev pub PlannedRestartsCrossNothing : Type 0
@@ -58,5 +61,5 @@ PlannedRestartsCrossNothing =
     (live : List LivePiece) (slots : Slots) (entries : IdEntries) (planned : List Planned) (rewrites : List Rewrite) (erased : List ℕ) (version : IpVersion)
     → IsPlannedRestart device_slots (proposal mode bits rules batch) state (halt_at done left twin) live slots entries (parts_as_planned planned rewrites erased)
     → AllByRecursion (IsRoute version) rules → AllByRecursion (IsRoute version) (additions batch)
-    → (shape : HasRestShape mode bits rules batch (on_device device_slots state) left twin (restart_writes (proposal mode bits rules batch) state twin entries slots planned rewrites erased))
-    → IsUncrossed (prefix_lengths version) (rest_insertions shape)
+    → (shape : HasShape (restart_front mode bits rules batch (on_device device_slots state) twin) (due_in left) (on_device device_slots state) (restart_writes (proposal mode bits rules batch) state twin entries slots planned rewrites erased))
+    → IsUncrossed (prefix_lengths version) (insertions_behind shape)

@@ -31,7 +31,7 @@ use Rattle.commit_writes.specs.Proposal.{proposal}
 use Rattle.commit_writes.specs.declared.Rewrite.{Rewrite}
 use Rattle.commit_writes.specs.Bits.{FieldBits, bits_with, new_bits}
 use Rattle.commit_writes.specs.Routes.{IsRoute, prefix_lengths}
-use Rattle.commit_writes.specs.Shape.{set_pieces, inserted_pieces}
+use Rattle.commit_writes.specs.Shape.{set_pieces, inserted_pieces, fresh_writes}
 use Rattle.commit_writes.specs.Planned.{IdEntries, Planned, IsPlannedRow, IsServedBy, live_after, held_entry}
 use Rattle.commit_writes.specs.PlannedBatch.{batch_writes, IsPlannedBatch}
 use Rattle.commit_writes.proofs.BatchRow.{row_of}
@@ -46,7 +46,6 @@ use Rattle.commit_writes.proofs.Row.{IsAsPlanned, AreNestedIds, made_by}
 use Rattle.commit_writes.proofs.SlotWrites.{batch_slots}
 use Rattle.commit_writes.proofs.Start.{commit_piece, commit_readable, commit_done, commit_makes, contents_are, arranged_ordered, old_live}
 use Rattle.commit_writes.proofs.Front.{fresh_state}
-use Rattle.commit_writes.proofs.ServedTables.{fresh_writes}
 use Rattle.commit_writes.proofs.TableWrites.{AreToTables, bit_writes-tables, insertions-behind, tables_in_use}
 use Rattle.commit_writes.proofs.WholeBatch.{in_use}
 use Rattle.split_device.specs.declared.SplitWrite.TheVariants.{Table}

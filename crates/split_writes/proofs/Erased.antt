@@ -26,7 +26,7 @@ use Rattle.commit_writes.specs.Bits.{FieldBits, bits_with, new_bits}
 use Rattle.commit_writes.specs.Commit.{IsSegment, insertion_writes}
 use Rattle.commit_writes.specs.Segments.{MayBegin}
 use Rattle.commit_writes.specs.Serving.{AreServing}
-use Rattle.commit_writes.specs.Shape.{Rewrites, Erases, set_pieces, inserted_pieces}
+use Rattle.commit_writes.specs.Shape.{Rewrites, Erases, set_pieces, inserted_pieces, fresh_writes}
 use Rattle.commit_writes.proofs.BatchRules.{IsSoundChange}
 use Rattle.commit_writes.proofs.ServedTables.{IsBitsStart, tables_serve, words_done}
 use Rattle.commit_writes.proofs.ServedLive.{change_begun, bits_begun}
@@ -113,7 +113,7 @@ module _ (mode : Mode) (bits : FieldBits) (rules : List Rule) (batch : List Comm
   added = inserted_pieces mode during rules batch
 
   abbrev tables : List Write
-  tables = segment.shape.tables
+  tables = fresh_writes mode bits rules batch state
 
   abbrev inserted : List Write
   inserted = segment.shape.inserted
@@ -134,13 +134,13 @@ module _ (mode : Mode) (bits : FieldBits) (rules : List Rule) (batch : List Comm
   change = change_begun mode bits rules batch state begin
 
   words : AreToTables tables
-  words = subst AreToTables (sym segment.shape.words) (bit_writes-tables state (new_bits bits (bits_with mode rules batch bits)))
+  words = bit_writes-tables state (new_bits bits (bits_with mode rules batch bits))
 
   serving : AreServing mode during (rules ++ additions batch) behind
-  serving = subst (λ writes. AreServing mode during (rules ++ additions batch) (state_after state writes)) (sym segment.shape.words) (tables_serve mode bits rules batch state start)
+  serving = tables_serve mode bits rules batch state start
 
   is_state : IsState (length behind.slots) behind
-  is_state = subst (λ (writes : List Write). IsState (length (state_after state writes).slots) (state_after state writes)) (sym segment.shape.words) (words_done mode bits rules batch state start).0
+  is_state = (words_done mode bits rules batch state start).0
 
   -- the insertions come behind the words of the tables, before all else
   made_are : insertions state made ≡ insertions behind (inserted ++ rest)

@@ -14,7 +14,7 @@ use Rattle.tcam_device.specs.Insertion.{Insertion, insertions, table_writes, IsG
 use Rattle.commit_writes.specs.Actions.{have_bits, commit_actions}
 use Rattle.commit_writes.specs.Bits.{FieldBits, bits_with, new_bits}
 use Rattle.commit_writes.specs.PlannedBatch.{batch_writes}
-use Rattle.commit_writes.proofs.ServedTables.{fresh_writes}
+use Rattle.commit_writes.specs.Shape.{fresh_writes}
 use Rattle.commit_writes.proofs.Wider.{all_back}
 use Rattle.commit_writes.proofs.WritesIn.{writes_of_commit}
 use Rattle.split_device.specs.State.{SplitState, undivided, split_after}

@@ -13,10 +13,10 @@ use Rattle.tcam_device.specs.Order.{IsOrdered, HasOneTwin}
 use Rattle.commit_writes.specs.Bits.{FieldBits, bits_with}
 use Rattle.commit_writes.specs.Segments.{IsAtRest}
 use Rattle.commit_writes.specs.Serving.{AreBitsOf, AreTranslated}
-use Rattle.commit_writes.specs.Shape.{set_pieces}
+use Rattle.commit_writes.specs.Shape.{set_pieces, fresh_writes}
 use Rattle.commit_writes.proofs.KeptBits.{pieces_same}
 use Rattle.commit_writes.proofs.LiveRanges.{translated}
-use Rattle.commit_writes.proofs.ServedTables.{IsBitsStart, fresh_writes, tables_serve}
+use Rattle.commit_writes.proofs.ServedTables.{IsBitsStart, tables_serve}
 use Rattle.readback.specs.Stage.{IsCommitAt}
 use Rattle.readback.specs.Tasks.{CommitPieces, commit_pieces, known_pieces, IsStanding}
 use Rattle.readback.proofs.Begun.{begun, change_of}

@@ -14,10 +14,10 @@ use Rattle.tcam_device.proofs.One.{same_match-same}
 use Rattle.commit_writes.specs.Bits.{FieldBits, bits_with}
 use Rattle.commit_writes.specs.Commit.{IsSegment}
 use Rattle.commit_writes.specs.Segments.{MayBegin}
-use Rattle.commit_writes.specs.Shape.{set_pieces}
+use Rattle.commit_writes.specs.Shape.{set_pieces, fresh_writes}
 use Rattle.commit_writes.proofs.BatchRules.{IsSoundChange}
 use Rattle.commit_writes.proofs.ServedLive.{change_begun, bits_begun}
-use Rattle.commit_writes.proofs.ServedTables.{fresh_writes, tables_serve}
+use Rattle.commit_writes.proofs.ServedTables.{tables_serve}
 use Rattle.readback.specs.Tasks.{CommitPieces, commit_pieces, known_pieces, Task, Insert, Rewrite, Erase, tasks_of, IsStanding, IsTold, IsLeft}
 use Rattle.readback.specs.Stage.{IsCommitAt, IsStage, IsTwinSlot}
 use Rattle.readback.specs.Laws.{HasUnused}

@@ -10,7 +10,7 @@ use Rattle.tcam_device.specs.State.{State, state_after}
 use Rattle.tcam_device.specs.Insertion.{table_writes}
 use Rattle.commit_writes.specs.Actions.{with_drain}
 use Rattle.commit_writes.specs.Bits.{bits_with, new_bits}
-use Rattle.commit_writes.proofs.ServedTables.{fresh_writes}
+use Rattle.commit_writes.specs.Shape.{fresh_writes}
 use Rattle.commit_writes.proofs.SlotsBehind.{IsCutAtSlots, cut_at_slots}
 use Rattle.commit_writes.proofs.SlotWrites.{AreToSlots}
 use Rattle.commit_writes.proofs.TableWrites.{AreToTables, bit_writes-tables}

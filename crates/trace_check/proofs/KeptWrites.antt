@@ -18,8 +18,8 @@ use Rattle.tcam_device.specs.Order.{StandsAt}
 use Rattle.commit_writes.specs.Bits.{FieldBits, bits_with}
 use Rattle.commit_writes.specs.Changes.{coded_by, during_of}
 use Rattle.commit_writes.specs.Serving.{AreTranslated}
-use Rattle.commit_writes.specs.Shape.{Stands}
-use Rattle.commit_writes.proofs.ServedTables.{fresh_writes, tables_serve}
+use Rattle.commit_writes.specs.Shape.{Stands, fresh_writes}
+use Rattle.commit_writes.proofs.ServedTables.{tables_serve}
 use Rattle.readback.specs.Progress.{AreParted}
 use Rattle.readback.specs.Stage.{IsCommitAt}
 use Rattle.readback.specs.Tasks.{CommitPieces, Task, commit_pieces, known_pieces, tasks_of, IsDone, IsLeft, is_done}

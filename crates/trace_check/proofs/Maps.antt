@@ -15,8 +15,9 @@ use Rattle.range_bits.proofs.FieldMaps.{IsFieldMap-no_ranges}
 use Rattle.tcam_device.specs.State.{State, IsState, state_after}
 use Rattle.commit_writes.specs.Bits.{FieldBits, no_bits, bits_with, bits_left}
 use Rattle.commit_writes.specs.Serving.{AreTranslated, AreRangesOf, AreBitsOf}
-use Rattle.commit_writes.proofs.ServedTables.{fresh_writes, bits_after}
+use Rattle.commit_writes.proofs.ServedTables.{bits_after}
 use Rattle.commit_writes.specs.Needed.{AreLive}
+use Rattle.commit_writes.specs.Shape.{fresh_writes}
 use Rattle.commit_writes.proofs.SetRanges.{are_by}
 use Rattle.readback.specs.Fault.{AreSetBits}
 use Rattle.readback.specs.Laws.{CanCommit}

@@ -23,11 +23,11 @@ use Rattle.tcam_device.specs.Order.{IsTranslated}
 use Rattle.commit_writes.specs.Bits.{FieldBits, bits_with, bits_left, with_bits}
 use Rattle.commit_writes.specs.Segments.{IsAtRest}
 use Rattle.commit_writes.specs.Serving.{AreTranslated, AreRangesOf, AreBitsOf}
-use Rattle.commit_writes.specs.Shape.{set_pieces, ranked_piece, ranked_pieces}
+use Rattle.commit_writes.specs.Shape.{set_pieces, ranked_piece, ranked_pieces, fresh_writes}
 use Rattle.commit_writes.proofs.BatchRules.{IsSoundChange}
 use Rattle.commit_writes.proofs.CodedRanges.{coded_in, in_coded, new_not_coded}
 use Rattle.commit_writes.proofs.Filters.{in_images, images_in}
-use Rattle.commit_writes.proofs.ServedTables.{IsBitsStart, field_given, fresh_writes, tables_serve, bits_after}
+use Rattle.commit_writes.proofs.ServedTables.{IsBitsStart, field_given, tables_serve, bits_after}
 use Rattle.readback.specs.Laws.{CanCommit}
 use Rattle.readback.specs.Stage.{IsCommitAt}
 use Rattle.readback.specs.Tasks.{CommitPieces, Task, Insert, Rewrite, Erase, commit_pieces, IsStanding, IsDone}

@@ -10,12 +10,12 @@ use Rattle.tcam_device.specs.Order.{StandsAt, IsOrdered}
 use Rattle.commit_writes.specs.Bits.{FieldBits, bits_with, bits_left}
 use Rattle.commit_writes.specs.Segments.{IsAtRest}
 use Rattle.commit_writes.specs.Serving.{AreBitsOf}
-use Rattle.commit_writes.specs.Shape.{set_pieces}
+use Rattle.commit_writes.specs.Shape.{set_pieces, fresh_writes}
 use Rattle.commit_writes.proofs.BatchRules.{IsSoundChange, set_after-is, right_after}
 use Rattle.slot_order.proofs.Lists.{filter_in}
 use Rattle.commit_writes.proofs.KeptBits.{pieces_left}
 use Rattle.commit_writes.proofs.Mirror.{IsOrdered_same}
-use Rattle.commit_writes.proofs.ServedTables.{IsBitsStart, fresh_writes, tables_serve}
+use Rattle.commit_writes.proofs.ServedTables.{IsBitsStart, tables_serve}
 use Rattle.readback.specs.Laws.{CanCommit}
 use Rattle.readback.specs.Stage.{IsCommitAt}
 use Rattle.readback.specs.Tasks.{CommitPieces, Task, commit_pieces, known_pieces, is_told_in}

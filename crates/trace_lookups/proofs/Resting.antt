@@ -14,11 +14,11 @@ use Rattle.commit_writes.specs.InFlight.{ServesLive, TestsLive}
 use Rattle.commit_writes.specs.Planned.{IsServedBy}
 use Rattle.commit_writes.specs.Segments.{IsAtRest}
 use Rattle.commit_writes.specs.Serving.{AreServing, AreTranslated, AreBitsOf}
-use Rattle.commit_writes.specs.Shape.{set_pieces}
+use Rattle.commit_writes.specs.Shape.{set_pieces, fresh_writes}
 use Rattle.commit_writes.proofs.KeptBits.{pieces_same}
 use Rattle.commit_writes.proofs.LiveBits.{chosen_live, tests_live}
 use Rattle.commit_writes.proofs.LiveRanges.{translated}
-use Rattle.commit_writes.proofs.ServedTables.{IsBitsStart, fresh_writes, tables_serve}
+use Rattle.commit_writes.proofs.ServedTables.{IsBitsStart, tables_serve}
 use Rattle.commit_writes.proofs.SetPieces.{set_served}
 use Rattle.readback.specs.Laws.{CanCommit}
 use Rattle.readback.specs.Tasks.{CommitPieces, commit_pieces, IsStanding}
