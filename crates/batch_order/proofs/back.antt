@@ -2,7 +2,6 @@
 pub mod Turned
 pub mod WayBack
 pub mod Passed
-pub mod Back
 pub mod Reverted
 pub mod Restored
 pub mod Aborted

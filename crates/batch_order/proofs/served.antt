@@ -6,3 +6,4 @@ pub mod FromRest
 pub mod Resting
 pub mod Leaves
 pub mod Plain
+pub mod Beginning

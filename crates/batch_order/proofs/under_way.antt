@@ -4,6 +4,7 @@ pub mod Carried
 pub mod Drains
 pub mod OnWay
 pub mod Ways
+pub mod Going
 pub mod Left
 pub mod Stepped
 pub mod Onward

@@ -1,5 +1,5 @@
 -- What holds of a manager between its calls.
-use Rattle.std.specs.Prelude.{◌≡◌, ℕ, ◌≤◌, ◌-◌, ◌⊎◌, ◌++◌, Bool, true, false, ◌&&◌, IsTrue, IsFalse, IsSome, Option, Some, None, List, length, map, take, drop, nat_eq, nat_lt}
+use Rattle.std.specs.Prelude.{◌≡◌, ℕ, ◌≤◌, ◌+◌, ◌-◌, ◌++◌, Bool, true, false, ◌&&◌, IsTrue, IsFalse, IsSome, Option, Some, None, List, length, take, drop, nat_eq, nat_lt, slice_get}
 use Rattle.std.specs.List.{AllByRecursion, IsDistinct}
 use Rattle.slot_pool.specs.Arrangement.{Slots}
 use Rattle.rule_model.specs.declared.Rule.{Rule}
@@ -14,17 +14,14 @@ use Rattle.rule_store.specs.Store.{StoredRules}
 use Rattle.rule_store.specs.Verdict.{entries_of}
 use Rattle.placement.specs.declared.LivePiece.{LivePiece}
 use Rattle.placement.specs.Live.{is_live}
-use Rattle.tcam_device.specs.State.{State, IsState, IsInUse, blank, state_after, on_device}
+use Rattle.tcam_device.specs.State.{State, IsState, IsInUse, blank, state_after}
 use Rattle.tcam_device.specs.declared.Action.{Action}
-use Rattle.tcam_device.specs.declared.Action.TheVariants.{Written}
 use Rattle.tcam_device.specs.declared.Write.{Write}
-use Rattle.tcam_device.specs.Hitless.{ShowsOldOrNew}
 use Rattle.tcam_device.specs.Insertion.{is_table_write}
 use Rattle.commit_writes.specs.declared.Done.{Done}
 use Rattle.commit_writes.specs.declared.Rewrite.{Rewrite}
-use Rattle.commit_writes.specs.Actions.{have_bits, with_drain}
-use Rattle.commit_writes.specs.Bits.{FieldBits, no_bits, bits_with, bits_left, new_bits}
-use Rattle.commit_writes.specs.InFlight.{ServesLive}
+use Rattle.commit_writes.specs.Actions.{with_drain}
+use Rattle.commit_writes.specs.Bits.{FieldBits, no_bits, bits_with, bits_left}
 use Rattle.commit_writes.specs.Serving.{AreBitsOf, HaveFreeBits}
 use Rattle.commit_writes.specs.Undo.{undo_writes, restorings}
 use Rattle.commit_writes.specs.Shape.{set_pieces}
@@ -33,12 +30,14 @@ use Rattle.commit_writes.specs.PlannedBatch.{rewritten_entries, erased_live}
 use Rattle.commit_writes.specs.Needed.{with_needed}
 use Rattle.commit_writes.specs.Changes.{coded_by, during_of}
 use Rattle.batch_order.specs.declared.held.Held.{Held}
+use Rattle.batch_order.specs.declared.planned_writes.PlannedWrite.{PlannedWrite}
 use Rattle.batch_order.specs.declared.translation.Translation.{Translation}
 use Rattle.batch_order.specs.ByParts.{longest_parts}
 use Rattle.batch_order.specs.Entries.{AreLast, Entries}
 use Rattle.batch_order.specs.Noting.{all_undo}
 use Rattle.batch_order.specs.Planning.{IsSettled, as_writes, all_writes}
 use Rattle.batch_order.specs.Managed.{HeldCommit, Way}
+use Rattle.batch_order.specs.Going.{IsGoing}
 use Rattle.batch_order.specs.Managed.Way.{On, Back}
 
 -- What a manager keeps of its device's translation: by covers nothing, and by bits the live ranges and both tables.
@@ -97,10 +96,13 @@ abbrev pub way_of : Option ℕ → List Write → Way
 way_of None undo = On undo
 way_of (Some undone) undo = Back undone
 
--- what is left of it: these writes with the drain where it is still to come, and once it is turned round the undo writes
+-- the writes that are left of it: these, and once it is turned round the undo writes
+abbrev pub left_of : Option ℕ → List Write → List Write → List Write
+left_of turned writes undo = elim turned [ None ↦ writes | Some undone ↦ undo ]
+
+-- with the drain where it is still to come
 abbrev pub course_of : Option ℕ → Bool → List Write → List Write → List Action
-course_of None awaits writes undo = with_drain awaits writes
-course_of (Some undone) awaits writes undo = map Written undo
+course_of turned awaits writes undo = with_drain awaits (left_of turned writes undo)
 
 -- the undo writes of those of its writes that stand
 abbrev pub undo_left : Option Translation → Slots → List (Option Entry) → Held → List Write
@@ -130,13 +132,31 @@ state_of translation entries slots (Some held) =
 abbrev pub left_count : Held → ℕ
 left_count held = elim held.turned [ None ↦ length (all_writes held.writes) - held.made | Some undone ↦ held.made ]
 
--- a commit as it is turned round
-abbrev pub turned_at : Held → Held
-turned_at held = record held { turned = Some held.made }
+-- the planned write that is due, none where the drain is next: the one behind those that stand, and once it is turned round
+-- what undoes the last of these
+abbrev pub due_of : Held → Option PlannedWrite
+due_of held = elim (drains_at held.awaits held.made held.counts) [
+  | true ↦ None
+  | false ↦ elim held.turned [
+    | None ↦ slice_get (all_writes held.writes) held.made
+    | Some undone ↦ elim (nat_eq held.made 0) [ true ↦ None | false ↦ slice_get (all_undo held.undo) (held.made - 1) ]
+  ]
+]
 
--- a commit that is turned round with one write less made: with a table word undone the new bits are no words' any more
-abbrev pub one_less : Held → Held
-one_less held = record held { made = held.made - 1; drained = elim (nat_lt (held.made - 1) held.counts.words) [ true ↦ false | false ↦ held.drained ] }
+-- a commit as it is turned round: what undoes its writes is left of it, and no drain is to come
+abbrev pub turned_at : Held → Held
+turned_at held = record held { turned = Some held.made; awaits = false }
+
+-- a commit with the write made that was due: one more stands, and once it is turned round one less; with a table word undone
+-- the new bits are no words' any more
+abbrev pub made_then : Option ℕ → ℕ → ℕ
+made_then turned made = elim turned [ None ↦ made + 1 | Some undone ↦ made - 1 ]
+
+abbrev pub drained_then : Option ℕ → ℕ → ℕ → Bool → Bool
+drained_then turned made words drained = elim turned [ None ↦ drained | Some undone ↦ elim (nat_lt (made - 1) words) [ true ↦ false | false ↦ drained ] ]
+
+abbrev pub passed : Held → Held
+passed held = record held { made = made_then held.turned held.made; drained = drained_then held.turned held.made held.counts.words held.drained }
 
 -- the pieces of a set have an entry each, and these stand in order
 pub record IsArranged (mode : Mode) (bits : FieldBits) (rules : List Rule) (kept : Entries) (slots : Slots) : Type 0 where
@@ -166,9 +186,9 @@ pub record AreWordsFirst (words : ℕ) (writes : List Write) : Type 0 where
   pub to_slots : AllByRecursion (λ write. IsFalse (is_table_write write)) behind
   pub count : words ≡ length tables
 
--- A commit under way can be carried out: its writes lead to the new set's entries in order, and after each of them each key
--- has the old or the new answer. Meanwhile the ids of both sets are live, with the old entries where a piece gets a result,
--- and so are the bits of both. One that `prepare` planned has its way back.
+-- A commit under way can be carried out: its writes lead to the new set's entries in order, and it goes on from action to
+-- action. Meanwhile the ids of both sets are live, with the old entries where a piece gets a result, and so are the bits of
+-- both. One that `prepare` planned has its way back.
 pub record IsHeld (translation : Option Translation) (rules : StoredRules) (kept : Entries) (slots : Slots) (held : Held) : Type 0 where
   pub size : length slots ≡ kept.slots
   pub entries : entries_of (mode_of translation) rules.rules ≤ length slots
@@ -184,23 +204,13 @@ pub record IsHeld (translation : Option Translation) (rules : StoredRules) (kept
       ≡ settled_state (translation_after translation rules.rules kept.entries held) (rewritten_entries kept.entries held.rewrites.items) held.arrangement
   pub tables : IsState 0 (tables_of (translation_after translation rules.rules kept.entries held))
   pub translated : AreBitsOf (mode_of translation) (bits_after rules.rules held) (set_after rules.rules held.batch) (tables_of (translation_after translation rules.rules kept.entries held))
-  -- on a device with so many slots or more each key has the old or the new answer on the way
-  pub answers : (device_slots : ℕ) → length slots ≤ device_slots → (n : ℕ) → n ≤ length (held_writes kept.entries held)
-      → ShowsOldOrNew (state_after (on_device device_slots (settled_state translation kept.entries slots)) (take n (held_writes kept.entries held))) rules.rules (set_after rules.rules held.batch)
-  -- up to the last word of the tables it serves the ranges before the commit, unless a drain came before the plan, and from
-  -- then on those that are live meanwhile
-  pub serves_before : (held.prepared ≡ true) ⊎ (held.drained ≡ false) → (device_slots : ℕ) → length slots ≤ device_slots → (n : ℕ) → n ≤ held.counts.words
-      → ServesLive (bits_of translation) (state_after (on_device device_slots (settled_state translation kept.entries slots)) (take n (held_writes kept.entries held)))
-  pub serves_behind : (device_slots : ℕ) → length slots ≤ device_slots → (n : ℕ) → held.counts.words ≤ n → n ≤ length (held_writes kept.entries held)
-      → ServesLive (during_of held.bits) (state_after (on_device device_slots (settled_state translation kept.entries slots)) (take n (held_writes kept.entries held)))
+  -- what is left of it can be made, and it can be turned round: each key has the old or the new answer all along
+  pub going : IsGoing (length slots) rules.rules (bits_of translation) (state_of translation kept.entries slots (Some held)) (held_of translation slots rules.rules kept.entries held)
   -- the drain, where a new bit asks for it, stands behind the words of the tables
   pub words_first : AreWordsFirst held.counts.words (held_writes kept.entries held)
   -- by covers there are none
   pub plain : mode_of translation ≡ Cover → held.counts.words ≡ 0
   pub early : held.awaits ≡ true → held.made ≤ held.counts.words
-  pub late : held.drained ≡ true → held.counts.words ≤ held.made
-  pub undrained : held.drained ≡ false → (held.made ≤ held.counts.words) ⊎ (have_bits (new_bits (bits_of translation) (during_of held.bits)) ≡ false)
-  pub drains : held.turned ≡ None → held.awaits ≡ false → held.drained ≡ false → have_bits (new_bits (bits_of translation) (during_of held.bits)) ≡ false
   pub made : held.made ≤ length (all_writes held.writes)
   pub in_use : AllByRecursion (IsInUse (length slots)) (held_writes kept.entries held)
   -- the batch can be applied to the set, without memory

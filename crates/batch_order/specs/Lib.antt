@@ -7,6 +7,7 @@ pub mod Managed
 pub mod Steps
 pub mod Turning
 pub mod Passed
+pub mod Going
 pub mod CarriedOut
 pub mod Kept
 pub mod Undoing

@@ -151,7 +151,7 @@ pub record Holds (old : Managed) (batch : List Command) (counts : Done) (new : M
       → CanRestart old.slots old.mode old.bits old.rules batch (on_device device_slots old.state) made
   -- its insertions are those of the placement, each with its aim
   pub placed : IsPlacedBy old.placement old.mode old.bits old.rules batch old.state made
-  pub numbers : (device_slots : ℕ) → old.slots ≤ device_slots → AreCounts (on_device device_slots old.state) made counts
+  pub numbers : (device_slots : ℕ) → old.slots ≤ device_slots → AreCounts made (insertions (on_device device_slots old.state) made) counts
   -- of routes no insertion crosses others, and none takes more writes than a prefix may have lengths
   pub uncrossed : (device_slots : ℕ) → old.slots ≤ device_slots → (version : IpVersion)
       → AllByRecursion (IsRoute version) old.rules → OnlyChangesRoutes version batch

@@ -16,15 +16,14 @@ use Rattle.placement.specs.Placement.{Aiming, rank_slot}
 use Rattle.tcam_device.specs.declared.Write.{Write}
 use Rattle.tcam_device.specs.State.{State, state_after}
 use Rattle.commit_writes.specs.Proposal.{Proposal, proposal}
-use Rattle.commit_writes.specs.declared.Rewrite.{Rewrite}
-use Rattle.commit_writes.specs.Bits.{FieldBits, bits_with, new_bits}
-use Rattle.commit_writes.specs.Shape.{bit_writes, inserted_pieces}
-use Rattle.commit_writes.specs.Planned.{IdEntries, Planned, contents}
+use Rattle.commit_writes.specs.Bits.{FieldBits, bits_with}
+use Rattle.commit_writes.specs.Shape.{inserted_pieces, fresh_writes}
+use Rattle.commit_writes.specs.Planned.{IdEntries}
 use Rattle.commit_writes.specs.PlannedBatch.{IsPlannedBatch, batch_writes}
-use Rattle.readback.specs.Halt.{halt_at, parts_as_planned}
+use Rattle.readback.specs.Halt.{PlannedParts, halt_at}
 use Rattle.readback.specs.Tasks.{Task}
-use Rattle.readback.specs.PlannedRest.{restart_writes}
 use Rattle.readback.specs.Restart.{IsPlannedRestart}
+use Rattle.readback.specs.Going.{restart_front}
 use Rattle.batch_order.specs.declared.Placement.{Placement}
 use Rattle.batch_order.specs.declared.Placement.TheVariants.{Middle, Rank, Ends}
 
@@ -84,39 +83,32 @@ abbrev pub aims_of : Placement → Mode → ℕ → List Rule → List RankedPie
 aims_of placement mode slots rules inserted =
     aims_from placement mode slots rules (entries_of mode rules + length inserted) 0 inserted
 
--- the words of a commit's new bits, and the state that they leave
-abbrev pub words_of : Mode → FieldBits → List Rule → List Command → State → List Write
-words_of mode bits rules batch state = bit_writes state (new_bits bits (bits_with mode rules batch bits))
-
--- The writes of a commit are the words of its new bits and then those of a planned batch whose insertions have the aims of
--- the placement: under some ids the set's entries stand as the state shows them, and each insertion makes the moves of a
--- placement with its aim.
-pub record IsPlacedBy (placement : Placement) (mode : Mode) (bits : FieldBits) (rules : List Rule) (batch : List Command) (state : State) (made : List Write) : Type 0 where
-  pub live : List LivePiece
-  pub arrangement : Slots
-  pub entries : IdEntries
-  pub planned : List Planned
-  pub rewrites : List Rewrite
-  pub erased : List ℕ
-  pub stands : state.slots ≡ contents entries arrangement
-  pub commit : IsPlannedBatch (proposal mode (bits_with mode rules batch bits) rules batch) (state_after state (words_of mode bits rules batch state)) live arrangement entries planned rewrites erased
-  pub aims : map (λ insertion. insertion.aiming) planned ≡ aims_of placement mode (length arrangement) rules (inserted_pieces mode (bits_with mode rules batch bits) rules batch)
-  pub writes_are : made ≡ words_of mode bits rules batch state ++ batch_writes entries arrangement planned rewrites erased
-
 -- the aims of those that are left of them where so many tasks are done: insertions come first
 abbrev pub aims_left : Placement → Mode → FieldBits → ℕ → List Rule → List Command → List Task → List Aiming
 aims_left placement mode bits slots rules batch done =
     drop (length done) (aims_of placement mode slots rules (inserted_pieces mode (bits_with mode rules batch bits) rules batch))
 
--- The writes of a restart are those of a planned one whose insertions have the aims that the commit's have by the placement:
--- the old set's entries and all that the commit inserts share the slots, whatever stands already.
-pub record IsRestPlacedBy (placement : Placement) (device_slots : ℕ) (asked : Proposal) (state : State) (done left : List Task) (twin : Option ℕ) (made : List Write) : Type 0 where
+-- Some writes are those of a plan behind some first ones: under some ids it is one by `IsPlan`, which says how its entries
+-- stand and that each insertion makes the moves of a placement with its aim; and its insertions have the aims that the
+-- placement gives them, where so many tasks of the commit are done: the old set's entries and all that the commit inserts
+-- share the slots, whatever stands already.
+pub record IsPlacedAs (placement : Placement) (asked : Proposal) (done : List Task) (front : List Write) (IsPlan : List LivePiece → Slots → IdEntries → PlannedParts → Type 0) (made : List Write) : Type 0 where
   pub live : List LivePiece
   pub arrangement : Slots
   pub entries : IdEntries
-  pub planned : List Planned
-  pub rewrites : List Rewrite
-  pub erased : List ℕ
-  pub restart : IsPlannedRestart device_slots asked state (halt_at done left twin) live arrangement entries (parts_as_planned planned rewrites erased)
-  pub aims : map (λ insertion. insertion.aiming) planned ≡ aims_left placement asked.mode asked.bits (length arrangement) asked.rules asked.batch done
-  pub writes_are : made ≡ restart_writes asked state twin entries arrangement planned rewrites erased
+  pub parts : PlannedParts
+  pub plan : IsPlan live arrangement entries parts
+  pub aims : map (λ insertion. insertion.aiming) parts.planned ≡ aims_left placement asked.mode asked.bits (length arrangement) asked.rules asked.batch done
+  pub writes_are : made ≡ front ++ batch_writes entries arrangement parts.planned parts.rewrites parts.erased
+
+-- so are those of a commit: the words of its new bits come first, and behind them it is a planned batch
+abbrev pub IsPlacedBy : Placement → Mode → FieldBits → List Rule → List Command → State → List Write → Type 0
+IsPlacedBy placement mode bits rules batch state made =
+    let front = fresh_writes mode bits rules batch state in
+    IsPlacedAs placement (proposal mode bits rules batch) [] front
+    (λ live slots entries parts. IsPlannedBatch (proposal mode (bits_with mode rules batch bits) rules batch) (state_after state front) live slots entries parts.planned parts.rewrites parts.erased) made
+
+-- and those of a restart
+abbrev pub IsRestPlacedBy : Placement → ℕ → Proposal → State → List Task → List Task → Option ℕ → List Write → Type 0
+IsRestPlacedBy placement device_slots asked state done left twin made =
+    IsPlacedAs placement asked done (restart_front asked.mode asked.bits asked.rules asked.batch state twin) (IsPlannedRestart device_slots asked state (halt_at done left twin)) made

@@ -12,12 +12,13 @@ use Rattle.commit_writes.specs.declared.Rewrite.{Rewrite}
 use Rattle.commit_writes.specs.Bits.{FieldBits}
 use Rattle.commit_writes.specs.Planned.{Planned}
 use Rattle.commit_writes.specs.PlannedBatch.{IsIdOf, IsRewriteOf}
+use Rattle.commit_writes.specs.Shape.{fresh_writes}
 use Rattle.readback.specs.Halt.{Halt, halt_at, parts_as_planned}
 use Rattle.readback.specs.Tasks.{Task, commit_pieces}
 use Rattle.readback.specs.Stage.{IsCommitAt, IsTwinSlot}
 use Rattle.readback.specs.Going.{twin_writes, inserted_by, rewritten_by, erased_by}
 use Rattle.readback.specs.Laws.{CanCommit}
-use Rattle.readback.specs.PlannedRest.{rest_words, restart_writes}
+use Rattle.readback.specs.PlannedRest.{restart_writes}
 use Rattle.readback.specs.Restart.{IsPlannedRestart}
 use Rattle.readback.specs.Standing.{AreReadIds}
 use Rattle.batch_order.specs.Arranged.{Arranged, LeftChanges, arranged_at, left_changes}
@@ -39,7 +40,7 @@ PlansRest =
     → CanCommit mode bits rules batch → IsState (length state.slots) state
     → IsCommitAt (length slots) mode bits rules batch (on_device device_slots state) done left → IsTwinSlot (on_device device_slots state).slots twin
     → AreReadIds (commit_pieces mode bits rules batch) (state_after state (twin_writes twin)).slots old.live slots old.entries
-    → as_writes new.entries rewrites (all_writes plan.writes) ≡ rest_words mode bits rules batch state ++ twin_writes twin
+    → as_writes new.entries rewrites (all_writes plan.writes) ≡ fresh_writes mode bits rules batch state ++ twin_writes twin
     → AreAllPlanned (arranged_at old slots) (arranged_at new middle) plan plan' (filter_map inserted_by left) aims rewrites erased
     → AllZip (IsRewriteOf old.live) (filter_map rewritten_by left) rewrites → AllZip (IsIdOf old.live) (filter_map erased_by left) erased
     → IsRestPlan device_slots (proposal mode bits rules batch) state (halt_at done left twin) (arranged_at old slots) new plan' aims (left_changes rewrites erased)

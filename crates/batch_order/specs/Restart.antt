@@ -15,14 +15,15 @@ use Rattle.commit_writes.specs.declared.Done.{Done}
 use Rattle.commit_writes.specs.Actions.{have_bits, with_drain}
 use Rattle.commit_writes.specs.Bits.{FieldBits, bits_with, bits_left, new_bits}
 use Rattle.commit_writes.specs.Routes.{IsRoute, prefix_lengths}
-use Rattle.commit_writes.specs.Shape.{inserted_pieces}
+use Rattle.commit_writes.specs.Shape.{inserted_pieces, insertions_behind}
+use Rattle.commit_writes.specs.Commit.{AreCounts}
 use Rattle.readback.specs.declared.Parts.{Parts}
 use Rattle.readback.specs.declared.StageFault.TheVariants.{Memory}
 use Rattle.readback.specs.Judged.{judgement}
 use Rattle.readback.specs.Tasks.{Task, stands_in}
 use Rattle.readback.specs.Stage.{IsCommitAt, IsStage, IsTwinSlot}
 use Rattle.readback.specs.Fault.{AreSetBits, IsFaultOf}
-use Rattle.readback.specs.Going.{needs_drain, rest_insertions, GoesOn, AreRestCounts}
+use Rattle.readback.specs.Going.{needs_drain, GoesOn}
 use Rattle.batch_order.specs.declared.Placement.{Placement}
 use Rattle.batch_order.specs.declared.restarting.fault.RestartFault.{RestartFault}
 use Rattle.batch_order.specs.declared.restarting.fault.RestartFault.TheVariants.{Refused, Stage}
@@ -90,10 +91,10 @@ pub record Resumes (slots : ℕ) (mode : Mode) (placement : Placement) (parts : 
   pub goes_on : GoesOn slots mode (bits_in parts) parts.rules.rules batch state left twin made
   -- its insertions are those of the placement, each with its aim
   pub placed : IsRestPlacedBy placement device_slots (proposal mode (bits_in parts) parts.rules.rules batch) (in_use slots state) done left twin made
-  pub numbers : AreRestCounts mode (bits_in parts) parts.rules.rules batch state left twin made counts
+  pub numbers : AreCounts made (insertions_behind goes_on.shape) counts
   -- of routes no insertion crosses others, and none takes more writes than a prefix may have lengths
   pub uncrossed : (version : IpVersion) → AllByRecursion (IsRoute version) parts.rules.rules → OnlyChangesRoutes version batch
-      → IsUncrossed (prefix_lengths version) (rest_insertions goes_on.shape)
+      → IsUncrossed (prefix_lengths version) (insertions_behind goes_on.shape)
 
 -- where a fault of a restart may come: a refusal exactly as the verdict, and a stage's only where it accepts and that one
 -- applies

@@ -1,10 +1,10 @@
 //! The commit under way.
 
-ghost use Rattle.std.specs.Prelude.{◌≡◌, ◌≤◌, ◌&&◌, true, false, None, Ok, Err, IsSome, is_none, length, nat_eq};
-ghost use Rattle.batch_order.specs.Kept.{drains_at, left_count, one_less, turned_at};
+ghost use Rattle.std.specs.Prelude.{◌≡◌, ◌<◌, ◌≤◌, ◌&&◌, true, false, None, Ok, Err, IsSome, is_none, length, nat_eq};
+ghost use Rattle.batch_order.specs.Kept.{drains_at, due_of, left_count, passed, turned_at};
 ghost use Rattle.batch_order.specs.Planning.{all_writes};
 
-use crate::planned_writes::PlannedWrites;
+use crate::planned_writes::{PlannedWrite, PlannedWrites};
 use crate::stood::Stood;
 use crate::undoing::PlannedUndo;
 use crate::{AbortFault, Done};
@@ -23,7 +23,8 @@ pub(crate) struct Held {
     pub(crate) undo: PlannedUndo,
     /// How many of the writes stand: it falls once the plan is turned round.
     pub(crate) made: usize,
-    /// How many stood when the plan was turned round.
+    /// How many stood when the plan was turned round. From then on what undoes those that stand is left, the last one first:
+    /// so it takes no memory, and nothing is moved.
     pub(crate) turned: Option<usize>,
     /// Whether the drain is still to come, behind the words of the tables.
     pub(crate) awaits: bool,
@@ -50,6 +51,24 @@ impl Held {
         self.awaits && self.made == self.counts.words as usize
     }
 
+    /// The planned write that is due, if one is: none while the drain is next.
+    pub(crate) fn due(&self) -> Option<PlannedWrite>
+        ensures { result ≡ due_of self.now }
+    {
+        if self.drains_next() {
+            return None;
+        }
+        match self.turned {
+            None => self.writes.get(self.made),
+            Some(_) => {
+                if self.made == 0 {
+                    return None;
+                }
+                self.undo.get(self.made - 1)
+            }
+        }
+    }
+
     /// How many writes are left, forward or back.
     pub(crate) fn left(&self) -> usize
         requires { self.now.made ≤ length (all_writes self.now.writes) }
@@ -68,7 +87,8 @@ impl Held {
         self.prepared && self.turned.is_none() && self.made == 0
     }
 
-    /// Turns the plan round, unless it is already or isn't prepared, and answers how many undo writes there are.
+    /// Turns the plan round, unless it is already or isn't prepared, and answers how many undo writes there are: these are
+    /// what is left then, the last one first, in place of the writes still to make and the drain.
     pub(crate) fn turn(&mut self) -> Result<u64, AbortFault>
         ensures restarted { self.old.prepared ≡ false → (result ≡ Err AbortFault.Restarted) × (self.new ≡ self.old) }
         ensures turns { self.old.prepared ≡ true → self.old.turned ≡ None → (result ≡ Ok self.old.made) × (self.new ≡ turned_at self.old) }
@@ -80,6 +100,7 @@ impl Held {
         match self.turned {
             None => {
                 self.turned = Some(self.made);
+                self.awaits = false;
                 Ok(self.made as u64)
             }
             Some(_) => Err(AbortFault::Back {
@@ -88,14 +109,23 @@ impl Held {
         }
     }
 
-    /// The last write that stood was undone. With a table word undone, words in flight may lack the new bits again.
-    pub(crate) fn go_back(&mut self)
-        requires { 1 ≤ self.old.made }
-        ensures { self.new ≡ one_less self.old }
+    /// The write that was due was made. With a table word undone, words in flight may lack the new bits again.
+    pub(crate) fn pass(&mut self)
+        requires on { self.old.turned ≡ None → self.old.made < length (all_writes self.old.writes) }
+        requires back { IsSome self.old.turned → 1 ≤ self.old.made }
+        ensures { self.new ≡ passed self.old }
     {
-        self.made -= 1;
-        if self.made < self.counts.words as usize {
-            self.drained = false;
+        match self.turned {
+            None => {
+                prove!(self.made < self.writes.len());
+                self.made += 1;
+            }
+            Some(_) => {
+                self.made -= 1;
+                if self.made < self.counts.words as usize {
+                    self.drained = false;
+                }
+            }
         }
     }
 }

@@ -18,7 +18,7 @@ ghost use Rattle.batch_order.specs.Turning.{IsHeldRight};
 ghost use Rattle.batch_order.specs.Passed.{WayBackFrom};
 ghost use Rattle.commit_writes.specs.Bits.{bits_with};
 ghost use Rattle.commit_writes.specs.Serving.{HaveFreeBits};
-ghost use Rattle.batch_order.specs.Placing.{words_of};
+ghost use Rattle.commit_writes.specs.Shape.{fresh_writes};
 ghost use Rattle.batch_order.specs.Noting.{BeginsWithWords, IsUnnoted};
 ghost use Rattle.batch_order.specs.Planning.{all_writes};
 ghost use Rattle.batch_order.specs.Laws.{StepLeaves};
@@ -315,7 +315,7 @@ impl Manager {
         requires none { plan.old.words ≡ 0 }
         requires unnoted { IsUnnoted plan.old.undo }
         ensures bits { IfOk result (λ bits. (coded_by bits ≡ self.now.mode) × (during_of bits ≡ bits_with self.now.mode self.now.rules batch.now self.now.bits)) }
-        ensures writes { OnOk result (all_writes plan.new.writes ≡ map PlannedWrite.Tabled (words_of self.now.mode self.now.bits self.now.rules batch.now self.now.state)) }
+        ensures writes { OnOk result (all_writes plan.new.writes ≡ map PlannedWrite.Tabled (fresh_writes self.now.mode self.now.bits self.now.rules batch.now self.now.state)) }
         ensures no_changes { plan.new.writes.changes.items ≡ plan.old.writes.changes.items }
         ensures begins { OnOk result (BeginsWithWords self.now.mode plan.new) }
         ensures words { OnOk result (plan.new.words ≡ length (all_writes plan.new.writes)) }

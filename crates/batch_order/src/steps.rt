@@ -28,62 +28,12 @@ impl Manager {
         ensures in_use { IfSome result (IsInUse self.now.slots) }
         ensures size { length self.now.state.slots ≡ self.now.slots }
     {
-        if self.is_turned() {
-            self.next_undo()
-        } else {
-            self.next_forward()
-        }
-    }
-
-    /// Whether a commit is under way and turned round.
-    fn is_turned(&self) -> bool
-        ensures { result ≡ is_turned self.now.held }
-    {
-        match &self.held {
-            None => false,
-            Some(held) => held.turned.is_some(),
-        }
-    }
-
-    /// The next write of a commit that isn't turned round.
-    fn next_forward(&self) -> Option<Write>
-        requires { is_turned self.now.held ≡ false }
-        ensures next { result ≡ next_of self.now.held }
-        ensures in_use { IfSome result (IsInUse self.now.slots) }
-        ensures size { length self.now.state.slots ≡ self.now.slots }
-    {
         match &self.held {
             None => None,
-            Some(held) => {
-                if held.drains_next() {
-                    return None;
-                }
-                match held.writes.get(held.made) {
-                    None => None,
-                    Some(planned) => Some(write_of(&planned, &self.live, &held.rewrites)),
-                }
-            }
-        }
-    }
-
-    /// The next undo write of one that is: what restores the last write that stands.
-    fn next_undo(&self) -> Option<Write>
-        requires { is_turned self.now.held ≡ true }
-        ensures next { result ≡ next_of self.now.held }
-        ensures in_use { IfSome result (IsInUse self.now.slots) }
-        ensures size { length self.now.state.slots ≡ self.now.slots }
-    {
-        match &self.held {
-            None => None,
-            Some(held) => {
-                if held.made == 0 {
-                    return None;
-                }
-                match held.undo.get(held.made - 1) {
-                    None => None,
-                    Some(planned) => Some(write_of(&planned, &self.live, &held.rewrites)),
-                }
-            }
+            Some(held) => match held.due() {
+                None => None,
+                Some(planned) => Some(write_of(&planned, &self.live, &held.rewrites)),
+            },
         }
     }
 
@@ -93,39 +43,8 @@ impl Manager {
         ensures stepped { (words : ℕ) → Steps self.old words self.old.held result self.new }
         ensures wrote { result ≡ Step.Wrote write }
     {
-        if self.is_turned() {
-            self.go_back();
-        } else {
-            self.go_on();
-        }
+        self.pass_write();
         Step::Wrote(write)
-    }
-
-    /// The next write of a commit that isn't turned round was made.
-    fn go_on(&mut self)
-        requires next { IsSome (next_of self.old.held) }
-        requires forward { is_turned self.old.held ≡ false }
-        ensures { (words : ℕ) → (write : Write) → next_of self.old.held ≡ Some write → Steps self.old words self.old.held (Step.Wrote write) self.new }
-    {
-        match &mut self.held {
-            None => {}
-            Some(held) => {
-                prove!(held.made < held.writes.len());
-                held.made += 1;
-            }
-        }
-    }
-
-    /// The next undo write of one that is was made.
-    fn go_back(&mut self)
-        requires next { IsSome (next_of self.old.held) }
-        requires turned { is_turned self.old.held ≡ true }
-        ensures { (words : ℕ) → (write : Write) → next_of self.old.held ≡ Some write → Steps self.old words self.old.held (Step.Wrote write) self.new }
-    {
-        match &mut self.held {
-            None => {}
-            Some(held) => held.go_back(),
-        }
     }
 
     /// Where no write is due: the drain where it is next, or the end, forward or back.
@@ -156,10 +75,7 @@ impl Manager {
     {
         match &self.held {
             None => false,
-            Some(held) => match held.turned {
-                None => held.drains_next(),
-                Some(_) => false,
-            },
+            Some(held) => held.drains_next(),
         }
     }
 
@@ -184,10 +100,9 @@ impl Manager {
         requires { IsSome (next_of self.old.held) }
         ensures { (words : ℕ) → (write : Write) → next_of self.old.held ≡ Some write → Steps self.old words self.old.held (Step.Wrote write) self.new }
     {
-        if self.is_turned() {
-            self.go_back();
-        } else {
-            self.go_on();
+        match &mut self.held {
+            None => {}
+            Some(held) => held.pass(),
         }
     }
 
@@ -259,6 +174,16 @@ impl Manager {
                 held.drained = true;
                 Step::Drained
             }
+        }
+    }
+
+    /// Whether a commit is under way and turned round.
+    fn is_turned(&self) -> bool
+        ensures { result ≡ is_turned self.now.held }
+    {
+        match &self.held {
+            None => false,
+            Some(held) => held.turned.is_some(),
         }
     }
 

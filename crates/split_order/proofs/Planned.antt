@@ -243,10 +243,10 @@ module _ (since : Since) (left : ℕ) (m m' : SplitManaged) (batch : List Comman
     live = holds.placed.live;
     arrangement = holds.placed.arrangement;
     entries = holds.placed.entries;
-    planned = holds.placed.planned;
-    rewrites = holds.placed.rewrites;
-    erased = holds.placed.erased;
-    commit = holds.placed.commit;
+    planned = holds.placed.parts.planned;
+    rewrites = holds.placed.parts.rewrites;
+    erased = holds.placed.parts.erased;
+    commit = holds.placed.plan;
     writes_are = holds.placed.writes_are;
   }
 

@@ -1,7 +1,7 @@
 -- A commit that is turned round.
 use Rattle.std.proofs.Common.{◌≡◌, ℕ, ◌+◌, ◌≤◌, Bool, true, false, List, length, map, take, drop, Option, Some, None, Ok, Err, Result, refl, sym, ap, subst, ◌-◌, ◌∙◌, arith, length-drop}
 use Rattle.std.specs.Prelude.{IfSome, IsSome}
-use Rattle.std.proofs.lemmas.List.{length-map, length-take}
+use Rattle.std.proofs.lemmas.List.{length-map}
 use Rattle.slot_pool.specs.Arrangement.{Slots}
 use Rattle.rule_store.specs.Store.{StoredRules}
 use Rattle.tcam_device.specs.declared.Write.{Write}
@@ -9,7 +9,6 @@ use Rattle.tcam_device.specs.declared.Action.TheVariants.{Written}
 use Rattle.tcam_device.specs.State.{State}
 use Rattle.tcam_device.specs.Flight.{writes_in}
 use Rattle.commit_writes.specs.Undo.{undo_writes}
-use Rattle.commit_writes.proofs.Undone.{length-undo_writes}
 use Rattle.commit_writes.proofs.WritesIn.{writes_of_map}
 use Rattle.batch_order.specs.declared.AbortFault.{AbortFault}
 use Rattle.batch_order.specs.declared.AbortFault.TheVariants as abort_fault
@@ -17,7 +16,8 @@ use Rattle.batch_order.specs.declared.Placement.{Placement}
 use Rattle.batch_order.specs.declared.held.Held.{Held}
 use Rattle.batch_order.specs.declared.translation.Translation.{Translation}
 use Rattle.batch_order.specs.Entries.{Entries}
-use Rattle.batch_order.specs.Kept.{IsManaged, course_of, held_of, held_writes, left_count, settled_state, turned_at, way_of}
+use Rattle.batch_order.specs.Kept.{IsManaged, held_of, held_writes, left_count, left_of, settled_state, turned_at, undo_left, way_of}
+use Rattle.batch_order.proofs.under_way.Left.{undo_count}
 use Rattle.batch_order.specs.Managed.{HeldCommit, Managed, Way, live_now, room_both_ways, room_by_way}
 use Rattle.batch_order.specs.Managed.Way.{On, Back}
 use Rattle.batch_order.specs.Passed.{WayBackFrom, HasWayBack}
@@ -29,6 +29,7 @@ use Rattle.batch_order.specs.Planning.{all_writes}
 use Rattle.batch_order.proofs.under_way.Carried.{held_size, view_of}
 use Rattle.batch_order.proofs.under_way.Drains.{writes_left_are}
 use Rattle.batch_order.proofs.under_way.OnWay.{managed_at}
+use Rattle.batch_order.proofs.under_way.Going.{turns_keep_going}
 
 -- what a call of abort leaves, whatever it answers
 pub record KeepsOn (old new : Managed) : Type 0 where
@@ -40,44 +41,26 @@ pub record KeepsOn (old new : Managed) : Type 0 where
   pub current : live_now new ≡ live_now old
 
 module _ (translation : Option Translation) (rules : StoredRules) (kept : Entries) (slots : Slots) (held : Held) (managed : IsManaged translation rules kept slots (Some held)) (placement : Placement) where
-  -- as many undo writes as were made
-  count : length (undo_writes (settled_state translation kept.entries slots) (take held.made (held_writes kept.entries held))) ≡ held.made
-  count =
-      let undo = length-undo_writes (settled_state translation kept.entries slots) (take held.made (held_writes kept.entries held)) in
-      let size : length (held_writes kept.entries held) ≡ length (all_writes held.writes) = held_size kept.entries held in
-      let all = managed.carried.made in
-      let taken = length-take held.made (held_writes kept.entries held) in
-      omega arith
-
   -- so many writes are left, forward or back
   pub left_is : left_count held ≡ length (writes_in (held_of translation slots rules.rules kept.entries held).actions)
-  left_is = go held.turned refl
+  left_is = go held.turned refl ∙ sym (ap length (writes_left_are held.awaits (left_of held.turned (drop held.made writes) undo)))
     where
       writes : List Write
       writes = held_writes kept.entries held
 
       undo : List Write
-      undo = undo_writes (settled_state translation kept.entries slots) (take held.made (held_writes kept.entries held))
+      undo = undo_left translation slots kept.entries held
 
-      go : (t : Option ℕ) → held.turned ≡ t → (elim t [ None ↦ length (all_writes held.writes) - held.made | Some undone ↦ held.made ])
-          ≡ length (writes_in (course_of t held.awaits (drop held.made (held_writes kept.entries held)) undo))
+      counted : Option ℕ → ℕ
+      counted t = elim t [ None ↦ length (all_writes held.writes) - held.made | Some undone ↦ held.made ]
+
+      go : (t : Option ℕ) → held.turned ≡ t → left_count held ≡ length (left_of held.turned (drop held.made writes) undo)
       go None is =
-          ap (λ n. n - held.made) (sym (held_size kept.entries held)) ∙ sym (length-drop held.made writes)
-          ∙ sym (ap length (writes_left_are held.awaits (drop held.made writes)))
-      go (Some undone) is = sym count ∙ sym (ap length (writes_of_map undo))
-
-  -- one that was prepared can be carried back
-  pub managed_turned : held.prepared ≡ true → IsManaged translation rules kept slots (Some (turned_at held))
-  managed_turned prepared =
-      managed_at translation rules kept slots held managed held.made (Some held.made) held.awaits held.drained record {
-        served = λ when. when;
-        back = λ some. prepared;
-        early = managed.carried.early;
-        late = managed.carried.late;
-        undrained = managed.carried.undrained;
-        drains = λ forward none not. absurd (let clash : Some held.made ≡ None = forward in cc);
-        made_are = managed.carried.made;
-      }
+          ap counted is ∙ (ap (λ n. n - held.made) (sym (held_size kept.entries held)) ∙ sym (length-drop held.made writes))
+          ∙ sym (ap (λ (t : Option ℕ). length (left_of t (drop held.made writes) undo)) is)
+      go (Some undone) is =
+          ap counted is ∙ sym (undo_count translation rules kept slots held managed)
+          ∙ sym (ap (λ (t : Option ℕ). length (left_of t (drop held.made writes) undo)) is)
 
   pub turns_back : held.turned ≡ None
       → TurnsBack (view_of placement translation rules kept slots (Some held)) (held_of translation slots rules.rules kept.entries held) (held_of translation slots rules.rules kept.entries held).way (Ok held.made)
@@ -94,9 +77,24 @@ module _ (translation : Option Translation) (rules : StoredRules) (kept : Entrie
       undo : List Write
       undo = undo_writes (settled_state translation kept.entries slots) (take held.made (held_writes kept.entries held))
 
+      count : length undo ≡ held.made
+      count = undo_count translation rules kept slots held managed
+
       turned_view : ℕ → Managed
       turned_view undone = record (view_of placement translation rules kept slots (Some held)) {
         held = Some (record (held_of translation slots rules.rules kept.entries held) { actions = map Written undo; way = Back undone });
+      }
+
+  -- one that was prepared can be carried back
+  pub managed_turned : held.prepared ≡ true → held.turned ≡ None → IsManaged translation rules kept slots (Some (turned_at held))
+  managed_turned prepared forward =
+      managed_at translation rules kept slots held managed held.made (Some held.made) false held.drained record {
+        back = λ some. prepared;
+        early = λ none. absurd (let clash : false ≡ true = none in cc);
+        made_are = managed.carried.made;
+        going = turns_keep_going (view_of placement translation rules kept slots (Some held)) (Ok held.made) (view_of placement translation rules kept slots (Some (turned_at held))) managed.carried.going
+            (subst (λ b. TurnsPrepared (view_of placement translation rules kept slots (Some held)) (held_of translation slots rules.rules kept.entries held) b (Ok held.made) (view_of placement translation rules kept slots (Some (turned_at held))))
+            (sym prepared) (turns_back forward));
       }
 
   pub stays_turned : (undone : ℕ) → held.turned ≡ Some undone
@@ -125,7 +123,7 @@ module _ (translation : Option Translation) (rules : StoredRules) (kept : Entrie
       is_so h = IsManaged translation rules kept slots (Some h)
 
       go : held.prepared ≡ true → (t : Option ℕ) → held.turned ≡ t → IsManaged translation rules kept slots (Some new)
-      go prepared None is = subst is_so (sym (did.turns prepared is).1) (managed_turned prepared)
+      go prepared None is = subst is_so (sym (did.turns prepared is).1) (managed_turned prepared is)
       go prepared (Some undone) is = subst is_so (sym (did.stays prepared (subst IsSome (sym is) refl)).1) managed
 
       by : (b : Bool) → held.prepared ≡ b → IsManaged translation rules kept slots (Some new)

@@ -1,5 +1,6 @@
 -- A commit that was taken back: the manager is as it was before it.
-use Rattle.std.proofs.Common.{◌≡◌, ℕ, zero, suc, ◌-◌, true, [], length, take, map, Option, Some, None, refl, sym, ap, subst, ◌∙◌}
+use Rattle.std.proofs.Common.{◌≡◌, ℕ, zero, suc, ◌-◌, true, [], length, take, map, Option, Some, None, refl, sym, ap, subst, ◌∙◌, arith}
+use Rattle.std.proofs.lemmas.List.{length-map}
 use Rattle.slot_pool.specs.Arrangement.{Slots}
 use Rattle.rule_store.specs.Store.{StoredRules}
 use Rattle.tcam_device.specs.declared.Action.TheVariants.{Written}
@@ -10,15 +11,14 @@ use Rattle.batch_order.specs.declared.Step.TheVariants as step
 use Rattle.batch_order.specs.declared.held.Held.{Held}
 use Rattle.batch_order.specs.declared.translation.Translation.{Translation}
 use Rattle.batch_order.specs.Entries.{Entries, KeepEntries}
-use Rattle.batch_order.specs.Kept.{IsManaged, IsPrepared, bits_of, held_of, held_writes, mode_of, settled_state, way_of}
+use Rattle.batch_order.specs.Kept.{IsManaged, IsPrepared, bits_of, held_of, held_writes, mode_of, settled_state, undo_left, way_of}
 use Rattle.batch_order.specs.Managed.{HeldCommit, Managed, Way}
 use Rattle.batch_order.specs.Managed.Way.{Back}
 use Rattle.batch_order.specs.Noting.{all_undo}
 use Rattle.batch_order.specs.Planning.{as_writes}
 use Rattle.batch_order.specs.Steps.{IsAllMade, Steps, StepsOn, cancelled, end_answer, left_by}
-use Rattle.batch_order.proofs.back.Back.{back_actions, last_one}
 use Rattle.batch_order.proofs.under_way.Carried.{view_of}
-use Rattle.batch_order.proofs.under_way.Left.{steps_as}
+use Rattle.batch_order.proofs.under_way.Left.{back_actions, steps_as, undo_count}
 use Rattle.batch_order.proofs.planning.Refused.{managed_same, view_same}
 
 -- the new ids are live no more, and the others keep their entries
@@ -52,17 +52,13 @@ module _ (translation : Option Translation) (rules : StoredRules) (kept kept' : 
       ∙ ap (λ n. idle_in placement (state_after (settled_state translation kept.entries slots) (take n (held_writes kept.entries held)))) (sym none)
 
   module _ (undone : ℕ) (turned : held.turned ≡ Some undone) (placement : Placement) where
-    due_is : (held_of translation slots rules.rules kept.entries held).actions ≡ map Written (undo_writes (settled_state translation kept.entries slots) (take held.made (held_writes kept.entries held)))
-    due_is = back_actions translation rules kept slots held undone turned
-
     none_stands : IsAllMade (view_of placement translation rules kept slots (Some held)).held → held.made ≡ 0
-    none_stands all = go held.made refl
-      where
-        go : (n : ℕ) → held.made ≡ n → n ≡ 0
-        go zero is = refl
-        go (suc k) is =
-            let last = last_one translation rules kept slots held managed undone turned k is in
-            let clash = sym (ap (map Written) last.1.undo) ∙ sym due_is ∙ all in absurd (cc)
+    none_stands all =
+        let over : map Written (undo_left translation slots kept.entries held) ≡ [] = sym (back_actions translation rules kept slots held managed undone turned) ∙ all in
+        let many = length-map (undo_left translation slots kept.entries held) Written in
+        let none : length (map Written (undo_left translation slots kept.entries held)) ≡ 0 = ap length over in
+        let count : length (undo_left translation slots kept.entries held) ≡ held.made = undo_count translation rules kept slots held managed in
+        omega arith
 
     pub revert_steps : IsAllMade (view_of placement translation rules kept slots (Some held)).held → (words : ℕ)
         → Steps (view_of placement translation rules kept slots (Some held)) words (view_of placement translation rules kept slots (Some held)).held (step.Reverted undone) (view_of placement translation rules kept' slots None)
@@ -70,8 +66,6 @@ module _ (translation : Option Translation) (rules : StoredRules) (kept kept' : 
         let old : Managed = view_of placement translation rules kept slots (Some held) in
         let one : HeldCommit = held_of translation slots rules.rules kept.entries held in
         let none : held.made ≡ 0 = none_stands all in
-        let undo : undo_writes (settled_state translation kept.entries slots) (take held.made (held_writes kept.entries held)) ≡ [] =
-        ap (λ n. undo_writes (settled_state translation kept.entries slots) (take n (held_writes kept.entries held))) none in
         let goes : way_of held.turned (undo_writes (settled_state translation kept.entries slots) (take held.made (held_writes kept.entries held))) ≡ Back undone =
         ap (λ (t : Option ℕ). way_of t (undo_writes (settled_state translation kept.entries slots) (take held.made (held_writes kept.entries held)))) turned in
         let did : StepsOn old one words [] (step.Reverted undone) (view_of placement translation rules kept' slots None) = (
@@ -80,4 +74,4 @@ module _ (translation : Option Translation) (rules : StoredRules) (kept kept' : 
               ∙ ap (λ n. idle_in placement (state_after (settled_state translation kept.entries slots) (take n (held_writes kept.entries held)))) (sym none)
               ∙ sym (ap (left_by old one) goes),
         ) in
-        steps_as old one words [] (step.Reverted undone) (view_of placement translation rules kept' slots None) (due_is ∙ ap (map Written) undo) did
+        steps_as old one words [] (step.Reverted undone) (view_of placement translation rules kept' slots None) all did

@@ -6,21 +6,13 @@ use Rattle.commit_writes.specs.Bits.{FieldBits}
 use Rattle.tcam_device.specs.declared.Action.{Action}
 use Rattle.tcam_device.specs.declared.Action.TheVariants.{Written, Drained}
 use Rattle.commit_writes.specs.InFlight.{ArePartOf}
+use Rattle.commit_writes.proofs.Led.{part_of_part, same_part}
 use Rattle.batch_order.specs.declared.Step.{Step}
 use Rattle.batch_order.specs.declared.Step.TheVariants as step
 use Rattle.batch_order.specs.Managed.{Managed, HeldCommit, Way, live_now}
 use Rattle.batch_order.specs.Managed.Way.{On, Back}
 use Rattle.batch_order.specs.Steps.{Steps, StepsOn, KeepsCurrent, current_by, is_back, left_by}
 use Rattle.batch_order.specs.Turning.{has_drain, has_word, IsCurrentRight, StepsKeepCurrent, WritesLeaveCurrent}
-
-same_part : (bits : FieldBits) → ArePartOf bits bits
-same_part bits = record { src = λ bit range live. live; dst = λ bit range live. live }
-
-part_trans : (a b c : FieldBits) → ArePartOf a b → ArePartOf b c → ArePartOf a c
-part_trans a b c first second = record {
-  src = λ bit range live. second.src bit range (first.src bit range live);
-  dst = λ bit range live. second.dst bit range (first.dst bit range live);
-}
 
 -- a step that leaves words current for what they are now
 keeps : (old : Managed) (made : Step) (new : Managed) → ArePartOf (live_now new) (live_now old) → KeepsCurrent old made new
@@ -41,7 +33,7 @@ left_with old held made new next is same part =
 ended : (old : Managed) (held : HeldCommit) (made : Step) (new : Managed) (one : Way) → old.held ≡ Some held → held.way ≡ one → held.actions ≡ [] → IsCurrentRight old.bits held
     → new ≡ left_by old held one → KeepsCurrent old made new
 ended old held made new (On undo) is way rest right did =
-    left_with old held made new _ is did (part_trans held.bits held.during held.current right.left (right.drained (ap is_back way) (ap has_drain rest)))
+    left_with old held made new _ is did (part_of_part held.bits held.during held.current right.left (right.drained (ap is_back way) (ap has_drain rest)))
 ended old held made new (Back undone) is way rest right did = left_with old held made new _ is did right.least
 
 less_then : (before current : FieldBits) (table : Bool) → ArePartOf before current → ArePartOf (current_by before current table) current

@@ -1,5 +1,5 @@
 -- A manager that holds the plan of a batch: it can carry it out, and callers see it as the batch's segment.
-use Rattle.std.proofs.Common.{◌≡◌, ℕ, ◌≤◌, Bool, true, false, List, [], length, take, drop, inl, Option, Some, None, refl, sym, ap, ap₂, subst, ◌∙◌, arith}
+use Rattle.std.proofs.Common.{◌≡◌, ℕ, ◌≤◌, Bool, true, false, List, [], length, take, drop, Option, Some, None, refl, sym, ap, ap₂, subst, ◌∙◌, arith}
 use Rattle.std.specs.List.{AllByRecursion}
 use Rattle.slot_pool.specs.Arrangement.{Slots}
 use Rattle.rule_model.specs.declared.Rule.{Rule}
@@ -35,13 +35,16 @@ use Rattle.batch_order.specs.Kept.{IsManaged, IsArranged, bits_of, changed_by, c
 use Rattle.batch_order.specs.Kept as kept
 use Rattle.batch_order.specs.Managed.{CanRestart, HeldCommit, Holds, Way, commit_of}
 use Rattle.batch_order.specs.Managed.Way.{On}
+use Rattle.batch_order.proofs.served.Beginning.{Begins, begins_going}
+use Rattle.batch_order.proofs.planning.Translated.{bits_same, settled_is}
 use Rattle.batch_order.proofs.served.FromRest.{BeginsAtRest, answers_all, begin, restarts_all, serves_first, serves_then, words_come_first}
 use Rattle.batch_order.proofs.planning.Judged.{idle_count}
 use Rattle.batch_order.proofs.arranged.Unchanged.{arranged_same}
 use Rattle.batch_order.proofs.under_way.Carried.{view_of}
 use Rattle.batch_order.proofs.planning.Taken.{IsCoded, IsPlanOf, during_by}
 use Rattle.batch_order.proofs.planning.Longest.{plan_longest}
-use Rattle.batch_order.proofs.planning.Leading.{parts_of, arranged_then, same_contents, same_state, plan_leads, plan_tables, plan_bits, plan_segment, few_planned, plain_writes}
+use Rattle.batch_order.proofs.planning.Leading.{parts_of, arranged_then, same_state, plan_leads, plan_tables, plan_bits, plan_segment, few_planned, plain_writes}
+use Rattle.readback.specs.Halt.{parts_as_planned}
 
 -- a commit whose plan is held
 pub record IsHeldPlan (placement : Placement) (translation : Option Translation) (rules rules' : StoredRules) (old new : Entries) (slots middle : Slots) (batch : List Command) (held : Held) : Type 0 where
@@ -121,6 +124,31 @@ module _ (placement : Placement) (translation : Option Translation) (rules rules
   during_is : during_of held.bits ≡ bits_with mode rules'.rules held.batch bits
   during_is = holds.coded.during ∙ ap₂ (λ (r : List Rule) (b : List Command). bits_with mode r b bits) (sym holds.same) (sym holds.batch_is)
 
+  -- and it goes on from there
+  goes : Begins translation rules' new slots held
+  goes =
+      let plan = holds.plan in
+      record {
+        made = holds.made;
+        forward = holds.forward;
+        start = record {
+          is_state = settled_is translation new.entries slots begins.managed.tables;
+          changes = begins.changes;
+          are = bits_same mode bits rules'.rules (tables_of translation) begun record { src = refl; dst = refl } begins.managed.translated;
+          few = begins.few;
+        };
+        during = during_is;
+        words_first = words_come_first translation rules' (record new { live = old.live }) slots held.batch writes begins held.counts.words plan.numbers.words;
+        in_use = plan.in_use;
+        answers = λ device_slots wide n within. answers_all translation rules' (record new { live = old.live }) slots held.batch writes begins device_slots wide n;
+        serves_before = λ some device_slots wide n below.
+            (let number = plan.numbers.words in serves_first translation rules' (record new { live = old.live }) slots held.batch writes begins device_slots wide n (omega arith));
+        serves_behind = λ device_slots wide n above within. subst (λ (b : FieldBits). ServesLive b (state_after (on_device device_slots begun) (take n writes))) (sym during_is)
+            (let number = plan.numbers.words in serves_then translation rules' (record new { live = old.live }) slots held.batch writes begins device_slots wide n (omega arith));
+        late = λ is. absurd (let clash : true ≡ false = sym is ∙ holds.undrained in cc);
+        drains = λ none not. sym holds.awaits ∙ none;
+      }
+
   -- a manager that holds the plan of a batch
   pub managed_held : length batch ≤ rules'.spare → held.arrangement ≡ erased_slots middle held.erased.items → IsManaged translation rules' new slots (Some held)
   managed_held room arrangement =
@@ -156,17 +184,10 @@ module _ (placement : Placement) (translation : Option Translation) (rules rules
           tables = plan_tables placement translation rules old new slots middle batch held.rewrites.items held.erased.items writes held.counts plan held.bits (set_after rules'.rules held.batch) holds.coded.coded;
           translated = of_left (λ b set. AreBitsOf mode b set (tables_of (translation_after translation rules'.rules new.entries held)))
               (plan_bits placement translation rules old new slots middle batch held.rewrites.items held.erased.items writes held.counts plan held.bits (set_after rules'.rules held.batch) holds.coded.coded);
-          answers = λ device_slots wide n within. answers_all translation rules' (record new { live = old.live }) slots held.batch writes begins device_slots wide n;
-          serves_before = λ some device_slots wide n below.
-              (let number = plan.numbers.words in serves_first translation rules' (record new { live = old.live }) slots held.batch writes begins device_slots wide n (omega arith));
-          serves_behind = λ device_slots wide n above within. subst (λ (b : FieldBits). ServesLive b (state_after (on_device device_slots begun) (take n writes))) (sym during_is)
-              (let number = plan.numbers.words in serves_then translation rules' (record new { live = old.live }) slots held.batch writes begins device_slots wide n (omega arith));
-          words_first = words_come_first translation rules' (record new { live = old.live }) slots held.batch writes begins held.counts.words plan.numbers.words;
+          going = begins_going translation rules' new slots held goes;
+          words_first = goes.words_first;
           plain = λ cover. plan.numbers.words ∙ no_table writes (plain_writes placement translation rules old new slots middle batch held.rewrites.items held.erased.items writes held.counts plan cover);
           early = λ still. (let none = holds.made in omega arith);
-          late = λ is. absurd (let clash : true ≡ false = sym is ∙ holds.undrained in cc);
-          undrained = λ not. inl (let none = holds.made in omega arith);
-          drains = λ forward none not. sym holds.awaits ∙ none;
           made = (let none = holds.made in omega arith);
           in_use = plan.in_use;
           right = subst (AllByRecursion HasConditions) (sym sets) (right_after rules.rules batch plan.taken.change);
@@ -206,11 +227,8 @@ module _ (placement : Placement) (translation : Option Translation) (rules rules
           live = old.live;
           arrangement = slots;
           entries = new.entries;
-          planned = plan.planned;
-          rewrites = held.rewrites.items;
-          erased = held.erased.items;
-          stands = sym (same_contents placement translation rules old new slots middle batch held.rewrites.items held.erased.items writes held.counts plan);
-          commit = plan.commit;
+          parts = parts_as_planned plan.planned held.rewrites.items held.erased.items;
+          plan = plan.commit;
           aims = plan.aims;
           writes_are = plan.writes_are;
         };

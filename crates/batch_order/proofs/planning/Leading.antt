@@ -25,7 +25,7 @@ use Rattle.commit_writes.specs.declared.Done.{Done}
 use Rattle.commit_writes.specs.declared.Rewrite.{Rewrite}
 use Rattle.commit_writes.specs.Bits.{FieldBits, bits_left}
 use Rattle.commit_writes.specs.Serving.{AreBitsOf}
-use Rattle.commit_writes.specs.Shape.{set_pieces, rewritten_pieces, erased_pieces}
+use Rattle.commit_writes.specs.Shape.{set_pieces, rewritten_pieces, erased_pieces, fresh_writes}
 use Rattle.commit_writes.specs.Planned.{Planned, AreEntriesOf, contents, with_slots}
 use Rattle.commit_writes.specs.PlannedBatch.{AreNumbersOf, IsIdOf, IsPlannedSegment, IsRewriteOf, batch_writes, erased_live, erased_slots, rewritten_entries}
 use Rattle.commit_writes.proofs.BatchPieces.{erased_once, erased_was, rewritten_once}
@@ -44,7 +44,6 @@ use Rattle.batch_order.specs.declared.Placement.{Placement}
 use Rattle.batch_order.specs.Entries.{Entries}
 use Rattle.batch_order.specs.Planning.{IsSettled, IsStanding}
 use Rattle.batch_order.specs.Kept.{IsArranged, bits_of, changed_by, mode_of, settled_state, tables_of, translated_by}
-use Rattle.batch_order.specs.Placing.{words_of}
 use Rattle.batch_order.proofs.ids.Numbered.{ids_apart, ids_few, one_live}
 use Rattle.batch_order.proofs.planning.Since.{live_more}
 use Rattle.batch_order.proofs.arranged.Entered.{contents_kept}
@@ -91,12 +90,12 @@ parts_live_before mode bits rules batch live rewrites erased parts =
 
 -- by covers a commit writes no words
 pub no_words : (translation : Option Translation) (rules : List Rule) (batch : List Command) (state : State) → ((kept : Translation) → translation ≡ Some kept → ⊥)
-    → words_of (mode_of translation) (bits_of translation) rules batch state ≡ []
+    → fresh_writes (mode_of translation) (bits_of translation) rules batch state ≡ []
 no_words None rules batch state none = bit_writes-none state
 no_words (Some kept) rules batch state none = absurd (none kept refl)
 
 pub cover_words : (translation : Option Translation) (rules : List Rule) (batch : List Command) (state : State) → mode_of translation ≡ Cover
-    → words_of (mode_of translation) (bits_of translation) rules batch state ≡ []
+    → fresh_writes (mode_of translation) (bits_of translation) rules batch state ≡ []
 cover_words translation rules batch state cover = no_words translation rules batch state (λ kept is. let bits : Cover ≡ Bits = sym cover ∙ ap mode_of is in cc)
 
 -- as many ids as new entries, and each is that of its piece
@@ -203,7 +202,7 @@ module _ (placement : Placement) (translation : Option Translation) (rules : Sto
       same_settled is = record { size = is.size; few = is.few; apart = is.apart; standing = is.standing; order = is.order; count = is.count }
 
   -- the slots hold the same with the new ids
-  pub same_contents : contents new.entries slots ≡ contents old.entries slots
+  same_contents : contents new.entries slots ≡ contents old.entries slots
   same_contents = contents_kept old.live old.entries new.entries slots plan.kept (settled_live old slots plan.taken.managed.carried.settled)
 
   pub same_state : settled_state translation new.entries slots ≡ before

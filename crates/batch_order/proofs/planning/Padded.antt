@@ -26,11 +26,11 @@ use Rattle.tcam_device.specs.declared.Write.{Write}
 use Rattle.tcam_device.specs.declared.Write.TheVariants.{Slot}
 use Rattle.tcam_device.specs.State.{State}
 use Rattle.commit_writes.specs.Bits.{FieldBits, bits_with, new_bits}
-use Rattle.commit_writes.specs.Shape.{word_write, bit_writes, inserted_pieces, rewritten_pieces}
+use Rattle.commit_writes.specs.Shape.{word_write, bit_writes, inserted_pieces, rewritten_pieces, fresh_writes}
 use Rattle.commit_writes.specs.Planned.{IdEntries, Planned, ArePlanned, ranked_of, planned_writes, write_for}
 use Rattle.commit_writes.specs.PlannedBatch.{IsIdOf, IsRewriteOf}
 use Rattle.batch_order.specs.declared.Placement.{Placement}
-use Rattle.batch_order.specs.Placing.{IsPlacedBy, words_of}
+use Rattle.batch_order.specs.Placing.{IsPlacedBy}
 
 -- the addition of a rule that every packet matches
 abbrev addition : List Command
@@ -101,16 +101,16 @@ pub one-write : (placement : Placement) (mode : Mode) (bits : FieldBits) (batch 
     → length (inserted_pieces mode (bits_with mode [] batch bits) [] batch) ≡ 1 → rewritten_pieces mode (bits_with mode [] batch bits) [] batch ≡ []
     → IsPlacedBy placement mode bits [] batch state made → length made ≡ 1
 one-write placement mode bits batch state made old one none placed =
-    let commit = placed.commit in
+    let commit = placed.plan in
     let empty : IsEmpty placed.arrangement = λ at id is.
     let live = live_is placed.live id (commit.arranged.standing.within at id is) in
     let piece = commit.entries_are.of_piece live.0 live.1 in
     contains_none piece.0 piece.1 in
-    let count : length placed.planned ≡ 1 = sym (length-map placed.planned ranked_of) ∙ (ap length commit.inserted ∙ one) in
-    let inserted : length (planned_writes placed.entries placed.planned) ≡ 1 = one-insertion placed.entries placed.live placed.arrangement placed.planned count commit.are_planned empty in
-    let rewritten : placed.rewrites ≡ [] = none-zipped (IsRewriteOf placed.live) placed.rewrites (rw none at commit.rewrites_are) in
-    let erased : placed.erased ≡ [] = none-zipped (IsIdOf placed.live) placed.erased commit.erased_are in
-    let words : words_of mode bits [] batch state ≡ [] = ap (λ during. bit_writes state (new_bits bits during)) old ∙ unwritten bits state in
+    let count : length placed.parts.planned ≡ 1 = sym (length-map placed.parts.planned ranked_of) ∙ (ap length commit.inserted ∙ one) in
+    let inserted : length (planned_writes placed.entries placed.parts.planned) ≡ 1 = one-insertion placed.entries placed.live placed.arrangement placed.parts.planned count commit.are_planned empty in
+    let rewritten : placed.parts.rewrites ≡ [] = none-zipped (IsRewriteOf placed.live) placed.parts.rewrites (rw none at commit.rewrites_are) in
+    let erased : placed.parts.erased ≡ [] = none-zipped (IsIdOf placed.live) placed.parts.erased commit.erased_are in
+    let words : fresh_writes mode bits [] batch state ≡ [] = ap (λ during. bit_writes state (new_bits bits during)) old ∙ unwritten bits state in
     let whole = ap length placed.writes_are in
     rw (words, rewritten, erased, append-nil) at whole ∙ inserted
 

@@ -24,7 +24,7 @@ use Rattle.commit_writes.specs.declared.Done.{Done}
 use Rattle.commit_writes.specs.declared.Rewrite.{Rewrite}
 use Rattle.commit_writes.specs.Bits.{FieldBits, bits_with, new_bits}
 use Rattle.commit_writes.specs.Serving.{AreServing}
-use Rattle.commit_writes.specs.Shape.{set_pieces, inserted_pieces, rewritten_pieces, erased_pieces}
+use Rattle.commit_writes.specs.Shape.{set_pieces, inserted_pieces, rewritten_pieces, erased_pieces, fresh_writes}
 use Rattle.commit_writes.specs.Planned.{IdEntries, Planned, AreArranged, AreEntriesOf, contents, planned_writes, live_after, slots_after}
 use Rattle.commit_writes.specs.PlannedBatch.{AreNumbersOf, IsIdOf, IsPlannedBatch, IsRewriteOf, batch_writes, erase_write, rewrite_write}
 use Rattle.commit_writes.proofs.Filters.{all_members}
@@ -46,7 +46,7 @@ use Rattle.batch_order.specs.ByParts.{insertion_parts, longest_planned_parts, mo
 use Rattle.batch_order.specs.Entries.{Entries, KeepEntries, HasId, HaveIds}
 use Rattle.batch_order.specs.Planning.{IsSettled, IsPlannable, IsWithin, ArePlannedSince, as_write, as_writes, planned_moves, all_writes}
 use Rattle.batch_order.specs.Kept.{IsManaged, bits_of, mode_of, settled_state, tables_of}
-use Rattle.batch_order.specs.Placing.{aims_of, words_of}
+use Rattle.batch_order.specs.Placing.{aims_of}
 use Rattle.batch_order.proofs.ids.Numbered.{arranged_number}
 use Rattle.batch_order.proofs.planning.Judged.{HasRoom}
 use Rattle.batch_order.proofs.arranged.Entered.{contents_kept, entries_of_kept}
@@ -59,7 +59,7 @@ abbrev pub during_by : Option Translation → StoredRules → List Command → F
 during_by translation rules batch = bits_with (mode_of translation) rules.rules batch (bits_of translation)
 
 abbrev pub words_by : Option Translation → StoredRules → Entries → Slots → List Command → List Write
-words_by translation rules kept slots batch = words_of (mode_of translation) (bits_of translation) rules.rules batch (settled_state translation kept.entries slots)
+words_by translation rules kept slots batch = fresh_writes (mode_of translation) (bits_of translation) rules.rules batch (settled_state translation kept.entries slots)
 
 abbrev pub behind_by : Option Translation → StoredRules → Entries → Slots → List Command → State
 behind_by translation rules kept slots batch = state_after (settled_state translation kept.entries slots) (words_by translation rules kept slots batch)

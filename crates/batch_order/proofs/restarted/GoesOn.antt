@@ -25,7 +25,7 @@ use Rattle.commit_writes.specs.InFlight.{ServesLive}
 use Rattle.commit_writes.specs.Planned.{Planned, AreEntriesOf, contents, with_slots}
 use Rattle.commit_writes.specs.PlannedBatch.{batch_writes, erased_live, rewritten_entries}
 use Rattle.commit_writes.specs.Serving.{AreBitsOf, AreTranslated}
-use Rattle.commit_writes.specs.Shape.{set_pieces}
+use Rattle.commit_writes.specs.Shape.{set_pieces, fresh_writes}
 use Rattle.commit_writes.proofs.BatchRules.{IsSoundChange, right_after}
 use Rattle.commit_writes.proofs.KeptBits.{pieces_left}
 use Rattle.commit_writes.proofs.Led.{ArePassed, serves_same}
@@ -41,7 +41,7 @@ use Rattle.readback.specs.Going.{GoesOn, needs_drain, twin_writes}
 use Rattle.readback.specs.Tasks.{CommitPieces, Task, commit_pieces, stands_in}
 use Rattle.readback.proofs.Begun.{begun, change_of}
 use Rattle.readback.specs.Ending.{LeadsOn}
-use Rattle.readback.specs.PlannedRest.{rest_words, restart_writes}
+use Rattle.readback.specs.PlannedRest.{restart_writes}
 use Rattle.readback.specs.Restart.{IsPlannedRestart}
 use Rattle.readback.specs.Serving.{stopped_ranges}
 use Rattle.readback.proofs.AtRest.{restarts_lead_on}
@@ -63,6 +63,7 @@ use Rattle.batch_order.proofs.arranged.Entered.{contents_kept}
 use Rattle.batch_order.proofs.planning.Judged.{accepted_room}
 use Rattle.batch_order.proofs.planning.Leading.{cover_words}
 use Rattle.batch_order.proofs.planning.Meant.{used_within}
+use Rattle.batch_order.proofs.served.Beginning.{Begins, begins_going}
 use Rattle.batch_order.proofs.restarted.NoneDue.{none_due, stand_alike}
 use Rattle.batch_order.proofs.planning.Translated.{bits_same, kept_state, state_by, tables_kept}
 
@@ -133,7 +134,7 @@ module _ (placement : Placement) (translation : Option Translation) (rules : Sto
   planned = on.planned.plan.planned
 
   abbrev words : List Write
-  words = rest_words mode bits rules.rules batch narrow
+  words = fresh_writes mode bits rules.rules batch narrow
 
   abbrev behind_words : List Write
   behind_words = twin_writes twin ++ batch_writes new.entries slots planned rest.left.rewrites.items rest.left.erased.items
@@ -277,6 +278,32 @@ module _ (placement : Placement) (translation : Option Translation) (rules : Sto
         (subst (λ (l : List LivePiece). AreEntriesOf (set_pieces mode during later) (erased_live l rest.left.erased.items) (rewritten_entries new.entries rest.left.rewrites.items)) (sym on.planned.live) led.entries_are));
   }
 
+  begins : Begins translation rules new found held
+  begins = record {
+    made = refl;
+    forward = refl;
+    start = subst (IsBitsStart mode bits rules.rules batch) (sym start_is) start;
+    during = on.planned.during;
+    words_first = record {
+      tables = words;
+      behind = behind_words;
+      parts = writes_are;
+      to_tables = bit_writes-tables narrow (new_bits bits during);
+      to_slots = behind_to_slots;
+      count = number ∙ count_words;
+    };
+    in_use = subst (λ (n : ℕ). AllByRecursion (IsInUse n) (held_writes new.entries held)) (sym on.size)
+        (used_within (length slots) new.entries rest.left.rewrites.items (all_writes rest.plan.writes) on.planned.within);
+    answers = λ device_slots width n within. said (λ (s : State) (w : List Write). ShowsOldOrNew (state_after (on_device device_slots s) (take n w)) rules.rules later) ((goes_on device_slots).during n);
+    serves_before = λ undrained device_slots width n below. said (λ (s : State) (w : List Write). ServesLive bits (state_after (on_device device_slots s) (take n w)))
+        (serves_early undrained device_slots n below);
+    serves_behind = λ device_slots width n above within. said (λ (s : State) (w : List Write). ServesLive (during_of rest.bits) (state_after (on_device device_slots s) (take n w)))
+        (subst (λ (b : FieldBits). ServesLive b (state_after (wide device_slots) (take n writes))) (sym on.planned.during) (serves_late device_slots n above));
+    late = none_left;
+    drains = λ awaits drained. subst (λ (b : FieldBits). have_bits (new_bits bits b) ≡ false) (sym on.planned.during)
+        (neither (have_bits (new_bits bits during)) (list_any (stands_in state.slots) p.inserted) awaits drained);
+  }
+
   held_on : IsHeld translation rules new found held
   held_on = record {
     size = on.as_found.size ∙ sym on.planned.adds.slots;
@@ -292,31 +319,12 @@ module _ (placement : Placement) (translation : Option Translation) (rules : Sto
     tables = kept_state translation rest.bits later (held_writes new.entries held) (length behind.slots) behind tables_before (words_done mode bits rules.rules batch narrow start).0 from_behind;
     translated = subst (λ (b : FieldBits). AreBitsOf mode (bits_left later b) later (tables_of turned)) (sym on.planned.during)
         (bits_after mode bits rules.rules batch narrow (tables_of turned) start (sym from_behind.src) (sym from_behind.dst));
-    answers = λ device_slots width n within. said (λ (s : State) (w : List Write). ShowsOldOrNew (state_after (on_device device_slots s) (take n w)) rules.rules later) ((goes_on device_slots).during n);
-    serves_before = λ which device_slots width n below. said (λ (s : State) (w : List Write). ServesLive bits (state_after (on_device device_slots s) (take n w)))
-        (elim which [
-          | inl prepared ↦ absurd (let clash : false ≡ true = prepared in cc)
-          | inr undrained ↦ serves_early undrained device_slots n below
-        ]);
-    serves_behind = λ device_slots width n above within. said (λ (s : State) (w : List Write). ServesLive (during_of rest.bits) (state_after (on_device device_slots s) (take n w)))
-        (subst (λ (b : FieldBits). ServesLive b (state_after (wide device_slots) (take n writes))) (sym on.planned.during) (serves_late device_slots n above));
-    words_first = record {
-      tables = words;
-      behind = behind_words;
-      parts = writes_are;
-      to_tables = bit_writes-tables narrow (new_bits bits during);
-      to_slots = behind_to_slots;
-      count = number ∙ count_words;
-    };
+    going = begins_going translation rules new found held begins;
+    words_first = begins.words_first;
     plain = λ cover. number ∙ (count_words ∙ ap length (cover_words translation rules.rules batch narrow cover));
     early = λ awaits. omega arith;
-    late = λ drained. (let none = none_left drained in omega arith);
-    undrained = λ not_yet. inl (omega arith);
-    drains = λ forward awaits drained. subst (λ (b : FieldBits). have_bits (new_bits bits b) ≡ false) (sym on.planned.during)
-        (neither (have_bits (new_bits bits during)) (list_any (stands_in state.slots) p.inserted) awaits drained);
     made = omega arith;
-    in_use = subst (λ (n : ℕ). AllByRecursion (IsInUse n) (held_writes new.entries held)) (sym on.size)
-        (used_within (length slots) new.entries rest.left.rewrites.items (all_writes rest.plan.writes) on.planned.within);
+    in_use = begins.in_use;
     right = right_after rules.rules batch change;
     sound = change.sound;
     changes = change.changes;

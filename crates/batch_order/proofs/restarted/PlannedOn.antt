@@ -23,7 +23,7 @@ use Rattle.tcam_device.specs.State.{State, IsState, on_device}
 use Rattle.commit_writes.specs.Proposal.{proposal}
 use Rattle.commit_writes.specs.declared.Rewrite.{Rewrite}
 use Rattle.commit_writes.specs.Bits.{FieldBits, bits_with, new_bits}
-use Rattle.commit_writes.specs.Shape.{bit_writes, rewritten_pieces}
+use Rattle.commit_writes.specs.Shape.{bit_writes, rewritten_pieces, fresh_writes}
 use Rattle.commit_writes.specs.Planned.{IdEntries, Planned}
 use Rattle.commit_writes.specs.PlannedBatch.{AreNumbersOf, IsIdOf, IsRewriteOf, batch_writes, erased_live, erased_slots}
 use Rattle.commit_writes.proofs.BatchPieces.{erased_once, rewritten_once}
@@ -41,7 +41,6 @@ use Rattle.readback.specs.Stage.{IsCommitAt, IsTwinSlot}
 use Rattle.readback.specs.Tasks.{CommitPieces, Task, changes_result, commit_pieces}
 use Rattle.readback.proofs.Begun.{change_of}
 use Rattle.readback.proofs.SetBits.{bits_meanwhile, cover_meanwhile, dst_fits, src_fits}
-use Rattle.readback.specs.PlannedRest.{rest_words}
 use Rattle.readback.proofs.Narrow.{stages_narrow}
 use Rattle.batch_order.specs.Arranged.{arranged_at, left_changes}
 use Rattle.batch_order.specs.declared.Placement.{Placement}
@@ -106,7 +105,7 @@ pub record AreFirstPlanned (words : List Write) (twin : Option ℕ) (plan : Plan
 -- the words by what is kept are those that the rest begins with
 words_rest : (translation : Option Translation) (mode : Mode) (rules : List Rule) (batch : List Command) (state : State) → mode_of translation ≡ mode → CanCommit mode (bits_of translation) rules batch
     → tables_of translation ≡ record state { slots = [] }
-    → bit_writes (tables_of translation) (new_bits (bits_of translation) (needed_by translation batch)) ≡ rest_words mode (bits_of translation) rules batch state
+    → bit_writes (tables_of translation) (new_bits (bits_of translation) (needed_by translation batch)) ≡ fresh_writes mode (bits_of translation) rules batch state
 words_rest translation mode rules batch state is can tables =
     ap₂ (λ (shown : State) (meanwhile : FieldBits). bit_writes shown (new_bits (bits_of translation) meanwhile)) tables (needed_meanwhile translation mode rules batch is can)
 
@@ -115,13 +114,13 @@ pub first_planned : (translation : Option Translation) (mode : Mode) (rules : Li
     → all_writes begun.writes ≡ map Tabled (bit_writes (tables_of translation) (new_bits (bits_of translation) (needed_by translation batch)))
     → begun.words ≡ length (all_writes begun.writes) → begun.most ≡ 0 → begun.span ≡ 0
     → all_writes plan.writes ≡ all_writes begun.writes ++ planned_twin twin → plan.writes.changes.items ≡ [] → plan.words ≡ begun.words → plan.most ≡ begun.most → plan.span ≡ begun.span
-    → AreFirstPlanned (rest_words mode (bits_of translation) rules batch state) twin plan
+    → AreFirstPlanned (fresh_writes mode (bits_of translation) rules batch state) twin plan
 first_planned translation mode rules batch state twin begun plan is can tables words number most span writes no_changes same_number same_most same_span =
-    let own : all_writes begun.writes ≡ map Tabled (rest_words mode (bits_of translation) rules batch state) = words ∙ ap (map Tabled) (words_rest translation mode rules batch state is can tables) in
+    let own : all_writes begun.writes ≡ map Tabled (fresh_writes mode (bits_of translation) rules batch state) = words ∙ ap (map Tabled) (words_rest translation mode rules batch state is can tables) in
     record {
       writes = writes ∙ ap (λ (some : List PlannedWrite). some ++ planned_twin twin) own;
       no_changes = no_changes;
-      number = same_number ∙ (number ∙ (ap length own ∙ length-map (rest_words mode (bits_of translation) rules batch state) Tabled));
+      number = same_number ∙ (number ∙ (ap length own ∙ length-map (fresh_writes mode (bits_of translation) rules batch state) Tabled));
       most = same_most ∙ most;
       span = same_span ∙ span;
     }
@@ -135,7 +134,7 @@ module _ (mode : Mode) (bits : FieldBits) (rules : List Rule) (batch : List Comm
   during = bits_with mode rules batch bits
 
   abbrev words : List Write
-  words = rest_words mode bits rules batch state
+  words = fresh_writes mode bits rules batch state
 
   abbrev device : State
   device = in_use (length slots) state
@@ -223,7 +222,7 @@ module _ (mode : Mode) (bits : FieldBits) (rules : List Rule) (batch : List Comm
       (still_live old.live adds.made erased (ids_live old.live (drop gone shown.erased.items) erased are))
 
   -- words and the twin's erase are within the slots in use
-  pub first_plannable : (plan : Plan) → AreFirstPlanned (rest_words mode bits rules batch state) shown.stage.twin plan → IsPlannable old slots plan.writes
+  pub first_plannable : (plan : Plan) → AreFirstPlanned (fresh_writes mode bits rules batch state) shown.stage.twin plan → IsPlannable old slots plan.writes
   first_plannable plan first = record {
     settled = read.settled;
     within = subst (AllByRecursion (IsWithin old.slots)) (sym first.writes)
@@ -247,7 +246,7 @@ module _ (mode : Mode) (bits : FieldBits) (rules : List Rule) (batch : List Comm
 
   module _ (placement : Placement) (device_slots : ℕ) (size : length state.slots ≡ device_slots) (new : Entries) (middle slots' : Slots) (plan : Plan) (aims : List Aiming) (rest : Rest)
       (aims_are : aims ≡ aims_left placement mode bits (length slots) rules batch stopped.found.done)
-      (first : AreFirstPlanned (rest_words mode bits rules batch state) shown.stage.twin plan)
+      (first : AreFirstPlanned (fresh_writes mode bits rules batch state) shown.stage.twin plan)
       (all : AreAllPlanned (arranged_at old slots) (arranged_at new middle) plan rest.plan (filter_map inserted_by stopped.found.left) aims rest.left.rewrites.items rest.left.erased.items)
       (adds : AddsIds old new rest.ids.items)
       (rewrites_are : AllZip (IsRewriteOf old.live) (drop (shown.stage.done - length shown.inserted.items) shown.rewritten.items) rest.left.rewrites.items)
@@ -358,7 +357,7 @@ module _ (mode : Mode) (bits : FieldBits) (rules : List Rule) (batch : List Comm
 
   -- so it is where the pieces that the device shows were planned
   pub all_planned_on : (placement : Placement) (device_slots : ℕ) → length state.slots ≡ device_slots → (new : Entries) (middle slots' : Slots) (plan : Plan) (rest : Rest)
-      → AreFirstPlanned (rest_words mode bits rules batch state) shown.stage.twin plan
+      → AreFirstPlanned (fresh_writes mode bits rules batch state) shown.stage.twin plan
       → AreAllPlanned (arranged_at old slots) (arranged_at new middle) plan rest.plan (drop shown.stage.done shown.inserted.items)
       (aims_from placement mode (length slots) rules (length old.live + length (drop shown.stage.done shown.inserted.items)) shown.stage.done (drop shown.stage.done shown.inserted.items))
       rest.left.rewrites.items rest.left.erased.items

@@ -17,7 +17,8 @@ use Rattle.tcam_device.specs.State.{State, state_after}
 use Rattle.tcam_device.specs.Order.{IsTwin}
 use Rattle.commit_writes.specs.Bits.{FieldBits}
 use Rattle.commit_writes.specs.Planned.{contents, entry_at, held_entry}
-use Rattle.commit_writes.proofs.ServedTables.{fresh_writes, tables_serve}
+use Rattle.commit_writes.specs.Shape.{fresh_writes}
+use Rattle.commit_writes.proofs.ServedTables.{tables_serve}
 use Rattle.readback.specs.declared.staging.Shown.{Shown}
 use Rattle.readback.specs.Going.{twin_writes}
 use Rattle.readback.specs.Stage.{IsTwinSlot}

@@ -13,12 +13,13 @@ use Rattle.commit_writes.specs.declared.Rewrite.{Rewrite}
 use Rattle.commit_writes.specs.Bits.{FieldBits}
 use Rattle.commit_writes.specs.Planned.{planned_writes}
 use Rattle.commit_writes.specs.PlannedBatch.{IsIdOf, IsRewriteOf, erase_write, rewrite_write}
+use Rattle.commit_writes.specs.Shape.{fresh_writes}
 use Rattle.readback.specs.Halt.{halt_at, parts_as_planned}
 use Rattle.readback.specs.Going.{erased_by, inserted_by, rewritten_by, twin_writes}
 use Rattle.readback.specs.Laws.{CanCommit}
 use Rattle.readback.specs.Stage.{IsCommitAt, IsTwinSlot}
 use Rattle.readback.specs.Tasks.{Task, commit_pieces}
-use Rattle.readback.specs.PlannedRest.{rest_words, restart_writes}
+use Rattle.readback.specs.PlannedRest.{restart_writes}
 use Rattle.readback.specs.Restart.{IsPlannedRestart}
 use Rattle.readback.specs.Standing.{AreReadIds}
 use Rattle.readback.proofs.ReadIds.{stages_have_ids}
@@ -34,7 +35,7 @@ module _ (device_slots : ℕ) (mode : Mode) (bits : FieldBits) (rules : List Rul
     (old new : Entries) (slots middle : Slots) (plan plan' : Plan) (aims : List Aiming) (rewrites : List Rewrite) (erased : List ℕ)
     (all : AreAllPlanned (arranged_at old slots) (arranged_at new middle) plan plan' (filter_map inserted_by left) aims rewrites erased) where
   abbrev words : List Write
-  words = rest_words mode bits rules batch state
+  words = fresh_writes mode bits rules batch state
 
   abbrev later : List Write
   later = map (rewrite_write middle) rewrites ++ map (erase_write middle) erased
@@ -71,7 +72,7 @@ module _ (device_slots : ℕ) (mode : Mode) (bits : FieldBits) (rules : List Rul
       }
 
   -- and so are the writes
-  pub restart_written : as_writes new.entries rewrites (all_writes plan.writes) ≡ rest_words mode bits rules batch state ++ twin_writes twin
+  pub restart_written : as_writes new.entries rewrites (all_writes plan.writes) ≡ fresh_writes mode bits rules batch state ++ twin_writes twin
       → as_writes new.entries rewrites (all_writes plan'.writes) ≡ restart_writes (proposal mode bits rules batch) state twin new.entries slots all.inserted.planned rewrites erased
   restart_written front =
       let since = all.inserted in

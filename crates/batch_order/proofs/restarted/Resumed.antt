@@ -1,5 +1,5 @@
 -- What callers see of a manager that goes on with a commit, and the room that it has for it.
-use Rattle.std.proofs.Common.{◌≡◌, ℕ, ◌+◌, ◌*◌, ◌^◌, ◌≤◌, true, false, Option, None, Some, List, [], length, refl, sym, ◌∙◌, ap, ap₂, subst, arith}
+use Rattle.std.proofs.Common.{◌≡◌, ℕ, ◌+◌, ◌*◌, ◌^◌, ◌≤◌, true, false, Option, None, Some, List, [], length, append_assoc, refl, sym, ◌∙◌, ap, ap₂, subst, arith}
 use Rattle.std.specs.List.{AllByRecursion}
 use Rattle.slot_pool.specs.Arrangement.{Slots}
 use Rattle.rule_model.specs.declared.IpVersion.{IpVersion}
@@ -18,19 +18,22 @@ use Rattle.commit_writes.specs.declared.Done.{Done}
 use Rattle.commit_writes.specs.Actions.{with_drain}
 use Rattle.commit_writes.specs.Bits.{FieldBits, bits_left, bits_with, new_bits}
 use Rattle.commit_writes.specs.Planned.{Planned}
-use Rattle.commit_writes.specs.PlannedBatch.{AreNumbersOf}
+use Rattle.commit_writes.specs.PlannedBatch.{AreNumbersOf, batch_writes}
 use Rattle.commit_writes.specs.Routes.{IsRoute, prefix_lengths}
 use Rattle.commit_writes.proofs.TableWords.{bit_writes-few}
 use Rattle.commit_writes.specs.Changes.{during_of}
+use Rattle.commit_writes.specs.Shape.{fresh_writes, insertions_behind}
+use Rattle.commit_writes.specs.Commit.{AreCounts}
 use Rattle.readback.specs.declared.Parts.{Parts}
 use Rattle.readback.specs.declared.staging.Shown.{Shown}
 use Rattle.readback.specs.Fault.{AreSetBits}
-use Rattle.readback.specs.Going.{AreRestCounts, GoesOn, needs_drain, rest_insertions}
+use Rattle.readback.specs.Going.{GoesOn, needs_drain, twin_writes}
 use Rattle.readback.specs.Laws.{CanCommit}
 use Rattle.readback.specs.Stage.{IsCommitAt}
 use Rattle.readback.specs.Tasks.{Task}
 use Rattle.readback.proofs.Begun.{no_bits_live}
 use Rattle.readback.specs.PlannedRest.{restart_writes}
+use Rattle.readback.specs.Halt.{parts_as_planned}
 use Rattle.readback.proofs.Counts.{restarts_counted, restarts_uncrossed}
 use Rattle.readback.proofs.Narrow.{stages_narrow}
 use Rattle.batch_order.specs.declared.Placement.{Placement}
@@ -138,8 +141,8 @@ module _ (placement : Placement) (translation : Option Translation) (rules : Sto
   abbrev Facts : State → List Rule → FieldBits → Type 0
   Facts st set before =
       (goes : GoesOn (length slots) mode before set batch st left twin writes)
-      × AreRestCounts mode before set batch st left twin writes counts
-      × ((version : IpVersion) → AllByRecursion (IsRoute version) set → OnlyChangesRoutes version batch → IsUncrossed (prefix_lengths version) (rest_insertions goes.shape))
+      × AreCounts writes (insertions_behind goes.shape) counts
+      × ((version : IpVersion) → AllByRecursion (IsRoute version) set → OnlyChangesRoutes version batch → IsUncrossed (prefix_lengths version) (insertions_behind goes.shape))
 
   facts : Facts state rules.rules bits
   facts =
@@ -148,7 +151,7 @@ module _ (placement : Placement) (translation : Option Translation) (rules : Sto
       let numbers : AreNumbersOf writes planned counts = subst (λ (w : List Write). AreNumbersOf w planned counts) are on.planned.numbers in
       subst (λ (st : State). Facts st rules.rules bits) whole (
         goes,
-        restarts_counted (length state.slots) mode bits rules.rules batch narrow done left twin old.live slots new.entries planned rest.left.rewrites.items rest.left.erased.items counts restart numbers,
+        restarts_counted (length state.slots) mode bits rules.rules batch narrow done left twin old.live slots new.entries planned rest.left.rewrites.items rest.left.erased.items counts restart numbers goes.shape,
         λ version routes changes. restarts_uncrossed (length state.slots) mode bits rules.rules batch narrow done left twin old.live slots new.entries planned rest.left.rewrites.items rest.left.erased.items version
             restart routes changes goes.shape,
       )
@@ -159,12 +162,10 @@ module _ (placement : Placement) (translation : Option Translation) (rules : Sto
     live = old.live;
     arrangement = slots;
     entries = new.entries;
-    planned = planned;
-    rewrites = rest.left.rewrites.items;
-    erased = rest.left.erased.items;
-    restart = on.planned.plan.restart;
+    parts = parts_as_planned planned rest.left.rewrites.items rest.left.erased.items;
+    plan = on.planned.plan.restart;
     aims = on.planned.plan.aims_are;
-    writes_are = refl;
+    writes_are = sym (append_assoc (fresh_writes mode bits rules.rules batch narrow) (twin_writes twin) (batch_writes new.entries slots planned rest.left.rewrites.items rest.left.erased.items));
   }
 
   few_writes : length writes ≤ 2 ^ 39

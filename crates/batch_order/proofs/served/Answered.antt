@@ -1,8 +1,7 @@
 -- What a manager's device answers, between commits and while one is under way.
-use Rattle.std.proofs.Common.{◌≡◌, ℕ, ◌-◌, ◌≤◌, Option, List, [], length, take, flat_map, None, Some, append-nil, refl, sym, ap, subst, arith}
-use Rattle.std.specs.List.{AllByRecursion, AllZip}
+use Rattle.std.proofs.Common.{◌≡◌, ℕ, ◌-◌, ◌≤◌, Option, List, [], length, flat_map, None, Some, append-nil, refl, sym, ap, subst}
+use Rattle.std.specs.List.{AllZip}
 use Rattle.std.specs.Prelude.{reverse}
-use Rattle.std.proofs.lemmas.List.{length-map}
 use Rattle.slot_order.proofs.Lists.{filter_nothing}
 use Rattle.slot_pool.specs.Arrangement.{Slots}
 use Rattle.rule_model.specs.declared.Rule.{Rule}
@@ -10,23 +9,22 @@ use Rattle.rule_model.specs.RuleSet.{rule_at}
 use Rattle.rule_store.specs.declared.Mode.{Mode}
 use Rattle.rule_store.specs.Batch.{additions, removes, set_after}
 use Rattle.rule_store.specs.Store.{StoredRules}
-use Rattle.rule_store.specs.Verdict.{replaced_rule}
+use Rattle.rule_store.specs.Verdict.{replaced_rule, added_pieces_over}
 use Rattle.rule_model.specs.Entry.{RankedPiece}
-use Rattle.tcam_device.specs.State.{State, IsInUse, Shows, on_device}
+use Rattle.tcam_device.specs.State.{State, Shows, on_device}
 use Rattle.tcam_device.specs.Hitless.{ShowsOldOrNew}
-use Rattle.tcam_device.proofs.Wider.{Shows-padded, all_take, state_after-on_device}
+use Rattle.tcam_device.proofs.Wider.{Shows-padded}
 use Rattle.commit_writes.specs.Bits.{FieldBits}
 use Rattle.commit_writes.specs.Serving.{AreServing}
-use Rattle.commit_writes.specs.Shape.{names, ranked_pieces, common_pieces, dropped_pieces, rewritten_pieces, erased_pieces}
-use Rattle.commit_writes.specs.Planned.{held_entry}
+use Rattle.commit_writes.specs.Shape.{names, ranked_pieces, common_pieces, rewritten_pieces, erased_pieces}
 use Rattle.commit_writes.specs.PlannedBatch.{AreSlotWrites, IsIdOf, IsRewriteOf}
 use Rattle.commit_writes.proofs.WholeBatch.{slot_writes}
 use Rattle.batch_order.specs.declared.held.Held.{Held}
 use Rattle.batch_order.specs.declared.translation.Translation.{Translation}
 use Rattle.batch_order.specs.Entries.{Entries}
-use Rattle.batch_order.specs.Kept.{IsManaged, bits_of, held_writes, mode_of, settled_state, state_of, tables_of}
-use Rattle.batch_order.specs.Planning.{all_writes}
-use Rattle.batch_order.proofs.under_way.Carried.{held_size}
+use Rattle.batch_order.specs.Going.{around}
+use Rattle.batch_order.specs.Kept.{IsManaged, bits_of, current_of, held_of, mode_of, settled_state, state_of, tables_of}
+use Rattle.batch_order.proofs.under_way.Going.{stands}
 use Rattle.batch_order.proofs.planning.Taken.{are_arranged}
 use Rattle.batch_order.proofs.planning.Translated.{bits_same, serving_of, settled_is}
 
@@ -37,7 +35,7 @@ none_rewritten mode bits rules =
 
 none_erased : (mode : Mode) (bits : FieldBits) (rules : List Rule) → erased_pieces mode bits rules [] ≡ []
 none_erased mode bits rules =
-    ap (λ (some : List Rule). flat_map (λ (old : Rule). ranked_pieces bits old (dropped_pieces mode (rule_at (additions []) old.priority) old)) (reverse some))
+    ap (λ (some : List Rule). flat_map (λ (old : Rule). ranked_pieces bits old (added_pieces_over mode (rule_at (additions []) old.priority) old)) (reverse some))
     (filter_nothing (λ (rule : Rule). removes rule.priority []) rules (λ rule member. refl))
 
 -- the writes of an empty batch, from the state of a manager without a commit under way
@@ -82,10 +80,6 @@ idle_answers translation rules kept slots managed device_slots wide =
 pub held_answers : (translation : Option Translation) (rules : StoredRules) (kept : Entries) (slots : Slots) (held : Held) → IsManaged translation rules kept slots (Some held)
     → (device_slots : ℕ) → length slots ≤ device_slots
     → ShowsOldOrNew (on_device device_slots (state_of translation kept.entries slots (Some held))) rules.rules (set_after rules.rules held.batch)
-held_answers translation rules kept slots held managed device_slots wide =
-    let begun : State = settled_state translation kept.entries slots in
-    let size : length begun.slots ≡ length slots = length-map slots (held_entry kept.entries) in
-    let used : AllByRecursion (IsInUse (length begun.slots)) (take held.made (held_writes kept.entries held)) =
-    all_take (IsInUse (length begun.slots)) held.made (held_writes kept.entries held) (subst (λ (n : ℕ). AllByRecursion (IsInUse n) (held_writes kept.entries held)) (sym size) managed.carried.in_use) in
-    subst (λ (state : State). ShowsOldOrNew state rules.rules (set_after rules.rules held.batch)) (state_after-on_device device_slots begun (take held.made (held_writes kept.entries held)) used)
-    (managed.carried.answers device_slots wide held.made (let size : length (held_writes kept.entries held) ≡ length (all_writes held.writes) = held_size kept.entries held in let all = managed.carried.made in omega arith))
+held_answers translation rules kept slots held managed =
+    (stands (around (length slots) rules.rules (bits_of translation) (held_of translation slots rules.rules kept.entries held)) (current_of translation held) (state_of translation kept.entries slots (Some held))
+    (held_of translation slots rules.rules kept.entries held).actions managed.carried.going.goes).shows

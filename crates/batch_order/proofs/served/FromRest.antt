@@ -21,9 +21,9 @@ use Rattle.commit_writes.specs.InFlight.{ServesLive}
 use Rattle.commit_writes.specs.Planned.{held_entry}
 use Rattle.commit_writes.specs.Segments.{MayBegin}
 use Rattle.commit_writes.specs.Serving.{HaveFreeBits}
+use Rattle.commit_writes.specs.Shape.{fresh_writes}
 use Rattle.commit_writes.proofs.AtRest.{rests_on_wider_devices}
 use Rattle.commit_writes.proofs.ServedLive.{early, late}
-use Rattle.commit_writes.proofs.ServedTables.{fresh_writes}
 use Rattle.commit_writes.proofs.SlotWrites.{AreToSlots, tables_left}
 use Rattle.commit_writes.proofs.SlotsBehind.{IsCutAtSlots, cut_at_slots}
 use Rattle.commit_writes.proofs.TableWrites.{bit_writes-tables}

@@ -15,7 +15,7 @@ use Rattle.batch_order.specs.Kept.{AreWordsFirst, IsManaged, held_writes, mode_o
 use Rattle.batch_order.specs.Managed.{HasBlankTables}
 
 -- with no word first all writes go to slots
-no_words_first : (writes : List Write) → AreWordsFirst 0 writes → AreToSlots writes
+pub no_words_first : (writes : List Write) → AreWordsFirst 0 writes → AreToSlots writes
 no_words_first writes first = go first.tables first.parts first.count
   where
     go : (tables : List Write) → writes ≡ tables ++ first.behind → 0 ≡ length tables → AreToSlots writes

@@ -54,6 +54,11 @@ drained_next writes none = ap (λ k. map Written (take k writes) ++ Drained ∷ 
 pub drained_later : (write : Write) (writes : List Write) → is_table_write write ≡ true → with_drain true (write ∷ writes) ≡ Written write ∷ with_drain true writes
 drained_later write writes is = ap (λ k. map Written (take k (write ∷ writes)) ++ Drained ∷ map Written (drop k (write ∷ writes))) (count_table write writes is)
 
+-- the first of some writes comes first, where a drain to come finds it a word
+pub action_first : (awaits : Bool) (write : Write) (writes : List Write) → (awaits ≡ true → is_table_write write ≡ true) → with_drain awaits (write ∷ writes) ≡ Written write ∷ with_drain awaits writes
+action_first false write writes word = refl
+action_first true write writes word = drained_later write writes (word refl)
+
 -- a write that is due is the first of those that are left
 pub record IsDue (awaits : Bool) (left : List Write) (write : Write) : Type 0 where
   pub more : List Write
@@ -108,7 +113,7 @@ has_drain_is true left none = let clash : true ≡ false = sym (found (take (tab
     found (write ∷ before) = found before
 
 -- with no word left none is among the actions
-no_word : (writes : List Write) → table_writes writes ≡ 0 → has_word (map Written writes) ≡ false
+pub no_word : (writes : List Write) → table_writes writes ≡ 0 → has_word (map Written writes) ≡ false
 no_word [] none = refl
 no_word (write ∷ writes) none = go (is_table_write write) refl (λ fewer. no_word writes fewer)
   where

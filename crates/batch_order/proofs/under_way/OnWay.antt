@@ -1,15 +1,13 @@
 -- What is known of a commit under way stays so while it is carried out or back: where it stands alone changes.
-use Rattle.std.proofs.Common.{◌≡◌, ℕ, ◌≤◌, Bool, true, false, Option, Some, None, ◌⊎◌, length}
+use Rattle.std.proofs.Common.{◌≡◌, ℕ, ◌≤◌, Bool, true, Option, Some, length}
 use Rattle.std.specs.Prelude.{IsSome}
 use Rattle.slot_pool.specs.Arrangement.{Slots}
 use Rattle.rule_store.specs.Store.{StoredRules}
-use Rattle.commit_writes.specs.Actions.{have_bits}
-use Rattle.commit_writes.specs.Bits.{new_bits}
-use Rattle.commit_writes.specs.Changes.{during_of}
 use Rattle.batch_order.specs.declared.held.Held.{Held}
 use Rattle.batch_order.specs.declared.translation.Translation.{Translation}
 use Rattle.batch_order.specs.Entries.{Entries}
-use Rattle.batch_order.specs.Kept.{IsManaged, bits_of}
+use Rattle.batch_order.specs.Going.{IsGoing}
+use Rattle.batch_order.specs.Kept.{IsManaged, bits_of, held_of, state_of}
 use Rattle.batch_order.specs.Planning.{all_writes}
 
 -- it stands elsewhere: so many of its writes are made, and it is turned round, awaits its drain or has drained as said
@@ -17,17 +15,15 @@ abbrev pub standing_at : Held → ℕ → Option ℕ → Bool → Bool → Held
 standing_at held made turned awaits drained = record held { made = made; turned = turned; awaits = awaits; drained = drained }
 
 -- what there is to know of where it stands
-pub record MayStand (translation : Option Translation) (held : Held) (made : ℕ) (turned : Option ℕ) (awaits drained : Bool) : Type 0 where
-  pub served : (held.prepared ≡ true) ⊎ (drained ≡ false) → (held.prepared ≡ true) ⊎ (held.drained ≡ false)
+pub record MayStand (translation : Option Translation) (rules : StoredRules) (kept : Entries) (slots : Slots) (held : Held) (made : ℕ) (turned : Option ℕ) (awaits drained : Bool) : Type 0 where
   pub back : IsSome turned → held.prepared ≡ true
   pub early : awaits ≡ true → made ≤ held.counts.words
-  pub late : drained ≡ true → held.counts.words ≤ made
-  pub undrained : drained ≡ false → (made ≤ held.counts.words) ⊎ (have_bits (new_bits (bits_of translation) (during_of held.bits)) ≡ false)
-  pub drains : turned ≡ None → awaits ≡ false → drained ≡ false → have_bits (new_bits (bits_of translation) (during_of held.bits)) ≡ false
   pub made_are : made ≤ length (all_writes held.writes)
+  pub going : IsGoing (length slots) rules.rules (bits_of translation) (state_of translation kept.entries slots (Some (standing_at held made turned awaits drained)))
+      (held_of translation slots rules.rules kept.entries (standing_at held made turned awaits drained))
 
 pub managed_at : (translation : Option Translation) (rules : StoredRules) (kept : Entries) (slots : Slots) (held : Held) → IsManaged translation rules kept slots (Some held)
-    → (made : ℕ) (turned : Option ℕ) (awaits drained : Bool) → MayStand translation held made turned awaits drained
+    → (made : ℕ) (turned : Option ℕ) (awaits drained : Bool) → MayStand translation rules kept slots held made turned awaits drained
     → IsManaged translation rules kept slots (Some (standing_at held made turned awaits drained))
 managed_at translation rules kept slots held managed made turned awaits drained may =
     let carried = managed.carried in
@@ -48,15 +44,10 @@ managed_at translation rules kept slots held managed made turned awaits drained 
         leads = carried.leads;
         tables = carried.tables;
         translated = carried.translated;
-        answers = carried.answers;
-        serves_before = λ when. carried.serves_before (may.served when);
-        serves_behind = carried.serves_behind;
+        going = may.going;
         words_first = carried.words_first;
         plain = carried.plain;
         early = may.early;
-        late = may.late;
-        undrained = may.undrained;
-        drains = may.drains;
         made = may.made_are;
         in_use = carried.in_use;
         right = carried.right;

@@ -6,7 +6,7 @@ use Rattle.tcam_device.specs.declared.Action.TheVariants.{Written}
 use Rattle.tcam_device.specs.State.{State}
 use Rattle.commit_writes.specs.declared.Done.{Done}
 use Rattle.commit_writes.specs.Undo.{restoring}
-use Rattle.commit_writes.proofs.WritesIn.{writes_of_map}
+use Rattle.commit_writes.proofs.WritesIn.{writes_of_commit}
 use Rattle.batch_order.specs.declared.Step.TheVariants as step
 use Rattle.batch_order.specs.Kept.{course_of, way_of}
 use Rattle.batch_order.specs.Managed.{HeldCommit, Managed, Way}
@@ -66,7 +66,7 @@ way_more (Some undone) state write undo = refl
 -- the undo writes that it keeps, or has to make
 pub undo_kept : (turned : Option ℕ) (awaits : Bool) (writes undo : List Write) → undo_in (course_of turned awaits writes undo) (way_of turned undo) ≡ undo
 undo_kept None awaits writes undo = refl
-undo_kept (Some undone) awaits writes undo = writes_of_map undo
+undo_kept (Some undone) awaits writes undo = writes_of_commit awaits undo
 
 -- writes alone have no drain
 pub written_alone : (writes : List Write) → has_drain (map Written writes) ≡ false

@@ -6,7 +6,7 @@ use Rattle.batch_order.specs.Managed.{Managed}
 use Rattle.batch_order.specs.Steps.{Steps, awaits_drain}
 use Rattle.batch_order.specs.Undoing.{StandsAt}
 use Rattle.batch_order.proofs.under_way.Carried.{view_of}
-use Rattle.batch_order.proofs.under_way.Left.{drain_forward, drained_steps, managed_drained}
+use Rattle.batch_order.proofs.under_way.Left.{drained_steps, managed_drained}
 use Rattle.batch_order.proofs.manager.Manager.pass_drain.Goals as goal
 use Rattle.batch_order.proofs.manager.Manager.pass_drain.Goals.{in-None, in-Some}
 
@@ -21,7 +21,7 @@ invariant_of-self c =
           let next : IsTrue (awaits_drain (view_of i.placement i.translation i.rules i.live i.arrangement (Some held)).held) =
           subst (λ (h : Option Held). IsTrue (awaits_drain (view_of i.placement i.translation i.rules i.live i.arrangement h).held)) w.in-Some.is requires in
           rw w.self-inside-is (
-            managed_drained i.translation i.rules i.live i.arrangement held (subst (IsManaged i.translation i.rules i.live i.arrangement) w.in-Some.is c.self.invariant.0) (drain_forward i.translation i.rules i.live i.arrangement held next).1,
+            managed_drained i.translation i.rules i.live i.arrangement held (subst (IsManaged i.translation i.rules i.live i.arrangement) w.in-Some.is c.self.invariant.0) i.placement next,
             subst (StandsAt i.arrangement i.planned) w.in-Some.is c.self.invariant.1,
           )
     ]

@@ -12,7 +12,7 @@ use Rattle.rule_store.specs.Verdict.{verdict, Accepted, entries_of}
 use Rattle.rule_model.specs.Entry.{RankedPiece, IsEncodable}
 use Rattle.commit_writes.specs.declared.Rewrite.{Rewrite}
 use Rattle.commit_writes.specs.Bits.{FieldBits, bits_with, new_bits}
-use Rattle.commit_writes.specs.Shape.{set_pieces, inserted_pieces, rewritten_pieces, erased_pieces}
+use Rattle.commit_writes.specs.Shape.{set_pieces, inserted_pieces, rewritten_pieces, erased_pieces, fresh_writes}
 use Rattle.commit_writes.specs.PlannedBatch.{IsIdOf, IsRewriteOf, erased_slots}
 use Rattle.commit_writes.proofs.TableWrites.{bit_writes-tables, tables_in_use}
 use Rattle.commit_writes.specs.Changes.{coded_by, during_of}
@@ -24,7 +24,7 @@ use Rattle.batch_order.specs.declared.planned_writes.PlannedWrite.TheVariants.{T
 use Rattle.batch_order.specs.declared.translation.Translation.{Translation}
 use Rattle.batch_order.specs.Entries.{AddsIds, Entries, HaveIds}
 use Rattle.batch_order.specs.Kept.{IsManaged, bits_of, held_of, mode_of, settled_state}
-use Rattle.batch_order.specs.Placing.{aims_of, words_of}
+use Rattle.batch_order.specs.Placing.{aims_of}
 use Rattle.batch_order.specs.Noting.{BeginsWithWords, all_undo}
 use Rattle.batch_order.specs.Planning.{ArePlannedSince, all_writes}
 use Rattle.batch_order.specs.Undoing.{AreRestoring, StandsAt, TakesBack}
@@ -63,11 +63,11 @@ coded_as placement translation rules kept slots held now batch bits view are =
 
 -- and the words
 words_as : (placement : Placement) (translation : Option Translation) (rules : StoredRules) (kept : Entries) (slots : Slots) (held : Option Held) (now : Managed) (batch : List Command) (writes : List PlannedWrite)
-    → view_of placement translation rules kept slots held ≡ now → now.held ≡ None → writes ≡ map Tabled (words_of now.mode now.bits now.rules batch now.state) → writes ≡ map Tabled (words_by translation rules kept slots batch)
+    → view_of placement translation rules kept slots held ≡ now → now.held ≡ None → writes ≡ map Tabled (fresh_writes now.mode now.bits now.rules batch now.state) → writes ≡ map Tabled (words_by translation rules kept slots batch)
 words_as placement translation rules kept slots held now batch writes view idle are =
     let none : held ≡ None = idle_held (held_of translation slots rules.rules kept.entries) held (rw (← view) at idle) in
-    let said : writes ≡ map Tabled (words_of (mode_of translation) (bits_of translation) rules.rules batch (view_of placement translation rules kept slots held).state) = rw (← view) at are in
-    subst (λ (h : Option Held). writes ≡ map Tabled (words_of (mode_of translation) (bits_of translation) rules.rules batch (view_of placement translation rules kept slots h).state)) none said
+    let said : writes ≡ map Tabled (fresh_writes (mode_of translation) (bits_of translation) rules.rules batch (view_of placement translation rules kept slots held).state) = rw (← view) at are in
+    subst (λ (h : Option Held). writes ≡ map Tabled (fresh_writes (mode_of translation) (bits_of translation) rules.rules batch (view_of placement translation rules kept slots h).state)) none said
 
 pub parts_of-requires : goal.parts_of-requires
 parts_of-requires c =

@@ -2,13 +2,12 @@ use Rattle.std.proofs.Common.{◌≡◌, None, Option, Ok, Err, IfOk, Result, ma
 use Rattle.std.proofs.lemmas.Result.{on_ok_weaker}
 use Rattle.commit_writes.specs.Bits.{FieldBits, bits_with, new_bits}
 use Rattle.commit_writes.specs.Serving.{HaveFreeBits}
-use Rattle.commit_writes.specs.Shape.{bit_writes}
+use Rattle.commit_writes.specs.Shape.{bit_writes, fresh_writes}
 use Rattle.commit_writes.specs.Changes.{coded_by, during_of}
 use Rattle.batch_order.specs.declared.held.Held.{Held}
 use Rattle.batch_order.specs.declared.planned_writes.PlannedWrite.TheVariants.{Tabled}
 use Rattle.batch_order.specs.Kept.{bits_of, held_of, mode_of, needed_by, tables_of}
 use Rattle.batch_order.specs.Managed.{Managed}
-use Rattle.batch_order.specs.Placing.{words_of}
 use Rattle.batch_order.specs.Noting.{BeginsWithWords}
 use Rattle.rule_store.specs.declared.Mode.{Mode}
 use Rattle.batch_order.proofs.under_way.Carried.{view_of}
@@ -52,13 +51,13 @@ returns-clause-writes c =
     let during : needed_by i.translation batch ≡ bits_with (mode_of i.translation) i.rules.rules batch (bits_of i.translation) =
     ranges_needed_are i.translation i.rules i.live i.arrangement i.held batch c.self.invariant.0 in
     let same : bit_writes (tables_of i.translation) (new_bits (bits_of i.translation) (needed_by i.translation batch))
-    ≡ words_of (mode_of i.translation) (bits_of i.translation) i.rules.rules batch (view_of i.placement i.translation i.rules i.live i.arrangement None).state =
+    ≡ fresh_writes (mode_of i.translation) (bits_of i.translation) i.rules.rules batch (view_of i.placement i.translation i.rules i.live i.arrangement None).state =
     ap (λ (b : FieldBits). bit_writes (tables_of i.translation) (new_bits (bits_of i.translation) b)) during in
     let held : bit_writes (tables_of i.translation) (new_bits (bits_of i.translation) (needed_by i.translation batch))
-    ≡ words_of (mode_of i.translation) (bits_of i.translation) i.rules.rules batch (view_of i.placement i.translation i.rules i.live i.arrangement i.held).state =
+    ≡ fresh_writes (mode_of i.translation) (bits_of i.translation) i.rules.rules batch (view_of i.placement i.translation i.rules i.live i.arrangement i.held).state =
     subst (λ (h : Option Held). bit_writes (tables_of i.translation) (new_bits (bits_of i.translation) (needed_by i.translation batch))
-    ≡ words_of (mode_of i.translation) (bits_of i.translation) i.rules.rules batch (view_of i.placement i.translation i.rules i.live i.arrangement h).state) (sym none) same in
-    let words : bit_writes (tables_of i.translation) (new_bits (bits_of i.translation) (needed_by i.translation batch)) ≡ words_of m.mode m.bits m.rules batch m.state =
+    ≡ fresh_writes (mode_of i.translation) (bits_of i.translation) i.rules.rules batch (view_of i.placement i.translation i.rules i.live i.arrangement h).state) (sym none) same in
+    let words : bit_writes (tables_of i.translation) (new_bits (bits_of i.translation) (needed_by i.translation batch)) ≡ fresh_writes m.mode m.bits m.rules batch m.state =
     rw (← c.self.view_is) held in
     on_ok_weaker c.plan_words.result (λ writes. writes ∙ ap (map Tabled) words) c.plan_words.ensures.writes
 

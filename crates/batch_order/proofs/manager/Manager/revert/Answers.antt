@@ -6,7 +6,7 @@ use Rattle.batch_order.specs.Kept.{IsManaged, undo_left}
 use Rattle.batch_order.specs.Managed.{Managed}
 use Rattle.batch_order.specs.Steps.{IsAllMade, Steps, is_turned}
 use Rattle.batch_order.specs.Undoing.{StandsAt}
-use Rattle.batch_order.proofs.back.Back.{way}
+use Rattle.batch_order.proofs.under_way.Left.{way}
 use Rattle.batch_order.proofs.under_way.Carried.{view_of}
 use Rattle.batch_order.proofs.back.Reverted.{IsReverted, managed_reverted, revert_steps}
 use Rattle.batch_order.proofs.under_way.Ways.{back_way}
