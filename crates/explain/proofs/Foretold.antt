@@ -16,7 +16,8 @@ use Rattle.replay.specs.Script.{Script}
 use Rattle.script_runs.specs.declared.Status.{Status}
 use Rattle.script_runs.specs.declared.Status.TheVariants.{Done, Refused, Script as ScriptFault}
 use Rattle.script_runs.specs.Script.{ScriptEnd, Whole, FaultAt, acts_of}
-use Rattle.tcam_cli.specs.Headline.{any_refused, decided, is_back}
+use Rattle.tcam_cli.specs.Judgements.{Judgement, LedTo, LedBack, any_declined, is_back, judged_as, judgements}
+use Rattle.tcam_cli.specs.Headline.{any_refused, decided}
 use Rattle.explain.specs.Explained.{IsNoTrial, foretells, judged_by, tried_by}
 
 -- ---- a batch of no changes
@@ -30,32 +31,26 @@ set-after-none rules = kept-none rules
 
 -- ---- one verdict
 
-abbrev refused_by : Verdict → Bool → Bool
-refused_by v behind = elim v [
-  | Accepted ↦ behind
-  | _ ↦ true
-]
+judged-comes : (v : Verdict) (a : Bool) (made still : List Judgement) → (a ≡ true → any_declined made ≡ true) → judged_by v a ≡ true → any_declined (judged_as v made still) ≡ true
+judged-comes Accepted a made still more e = more e
+judged-comes (Unsound fault) a made still more e = refl
+judged-comes (OutOfBits field needed free) a made still more e = refl
+judged-comes (OutOfSlots needed free) a made still more e = refl
 
-judged-comes : (v : Verdict) (a b : Bool) → (a ≡ true → b ≡ true) → judged_by v a ≡ true → refused_by v b ≡ true
-judged-comes Accepted a b more e = more e
-judged-comes (Unsound fault) a b more e = refl
-judged-comes (OutOfBits field needed free) a b more e = refl
-judged-comes (OutOfSlots needed free) a b more e = refl
+judged-same : (v : Verdict) (a : Bool) (made still : List Judgement) → a ≡ any_declined made → judged_by v a ≡ any_declined (judged_as v made still)
+judged-same Accepted a made still e = e
+judged-same (Unsound fault) a made still e = refl
+judged-same (OutOfBits field needed free) a made still e = refl
+judged-same (OutOfSlots needed free) a made still e = refl
 
-judged-same : (v : Verdict) (a b : Bool) → a ≡ b → judged_by v a ≡ refused_by v b
-judged-same Accepted a b e = e
-judged-same (Unsound fault) a b e = refl
-judged-same (OutOfBits field needed free) a b e = refl
-judged-same (OutOfSlots needed free) a b e = refl
-
-either-true : (back a b : Bool) → a ≡ true → b ≡ true → (elim back [ true ↦ a | false ↦ b ]) ≡ true
-either-true true a b x y = x
-either-true false a b x y = y
+either-true : (back : Bool) (one other : List Judgement) → any_declined one ≡ true → any_declined other ≡ true → any_declined (elim back [ true ↦ one | false ↦ other ]) ≡ true
+either-true true one other x y = x
+either-true false one other x y = y
 
 -- what a trial comes to, by its changes
-trial-comes : (changes : List Change) (v : Verdict) (a b : Bool) → (changes ≡ [] → a ≡ true → b ≡ true) → tried_by changes v a ≡ true → refused_by v b ≡ true
-trial-comes [] v a b more e = judged-comes v a b (more refl) e
-trial-comes (change ∷ changes) v a b more e = judged-comes v false b (λ told. let bad : false ≡ true = told in absurd (cc)) e
+trial-comes : (changes : List Change) (v : Verdict) (a : Bool) (made still : List Judgement) → (changes ≡ [] → a ≡ true → any_declined made ≡ true) → tried_by changes v a ≡ true → any_declined (judged_as v made still) ≡ true
+trial-comes [] v a made still more e = judged-comes v a made still (more refl) e
+trial-comes (change ∷ changes) v a made still more e = judged-comes v false made still (λ told. let bad : false ≡ true = told in absurd (cc)) e
 
 -- ---- all acts
 
@@ -70,19 +65,20 @@ foretold-comes setting backs rules batch asked (Probe key ∷ acts) e = foretold
 foretold-comes setting backs rules batch asked (Packet key ∷ acts) e = foretold-comes setting backs rules batch asked acts e
 foretold-comes setting backs rules batch asked (Commit ∷ acts) e =
     let next = set_after rules (settled_batch rules batch asked) in
-    judged-comes (commit_verdict setting rules batch asked) (foretells setting next [] Nothing acts) (any_refused setting backs next [] Nothing acts)
+    judged-comes (commit_verdict setting rules batch asked) (foretells setting next [] Nothing acts) (LedTo next ∷ judgements setting backs next [] Nothing acts) (judgements setting backs rules [] Nothing acts)
     (foretold-comes setting backs next [] Nothing acts) e
 foretold-comes setting backs rules batch asked (Trial most ∷ acts) e =
     let next = set_after rules (settled_batch rules batch asked) in
     trial-comes (settled_batch rules batch asked) (settled_verdict setting.slots setting.mode rules batch asked) (foretells setting next [] Nothing acts)
-    (elim (is_back backs) [ true ↦ any_refused setting (drop 1 backs) rules [] Nothing acts | false ↦ any_refused setting (drop 1 backs) next [] Nothing acts ])
-    (λ none told. either-true (is_back backs) (any_refused setting (drop 1 backs) rules [] Nothing acts) (any_refused setting (drop 1 backs) next [] Nothing acts)
+    (elim (is_back backs) [ true ↦ LedBack next rules ∷ judgements setting (drop 1 backs) rules [] Nothing acts | false ↦ LedTo next ∷ judgements setting (drop 1 backs) next [] Nothing acts ])
+    (judgements setting backs rules [] Nothing acts)
+    (λ none told. either-true (is_back backs) (LedBack next rules ∷ judgements setting (drop 1 backs) rules [] Nothing acts) (LedTo next ∷ judgements setting (drop 1 backs) next [] Nothing acts)
     (foretold-comes setting (drop 1 backs) rules [] Nothing acts
     (subst (λ old. foretells setting old [] Nothing acts ≡ true) (ap (set_after rules) none ∙ set-after-none rules) told))
     (foretold-comes setting (drop 1 backs) next [] Nothing acts told)) e
 foretold-comes setting backs rules batch asked (Crash after ∷ acts) e =
     let next = set_after rules (settled_batch rules batch asked) in
-    judged-comes (settled_verdict setting.slots setting.mode rules batch asked) (foretells setting next [] Nothing acts) (any_refused setting backs next [] Nothing acts)
+    judged-comes (settled_verdict setting.slots setting.mode rules batch asked) (foretells setting next [] Nothing acts) (LedTo next ∷ judgements setting backs next [] Nothing acts) (judgements setting backs rules [] Nothing acts)
     (foretold-comes setting backs next [] Nothing acts) e
 
 -- without trials nothing else comes
@@ -96,12 +92,12 @@ foretold-alone setting backs rules batch asked (Probe key ∷ acts) none = foret
 foretold-alone setting backs rules batch asked (Packet key ∷ acts) none = foretold-alone setting backs rules batch asked acts none.1
 foretold-alone setting backs rules batch asked (Commit ∷ acts) none =
     let next = set_after rules (settled_batch rules batch asked) in
-    judged-same (commit_verdict setting rules batch asked) (foretells setting next [] Nothing acts) (any_refused setting backs next [] Nothing acts)
+    judged-same (commit_verdict setting rules batch asked) (foretells setting next [] Nothing acts) (LedTo next ∷ judgements setting backs next [] Nothing acts) (judgements setting backs rules [] Nothing acts)
     (foretold-alone setting backs next [] Nothing acts none.1)
 foretold-alone setting backs rules batch asked (Trial most ∷ acts) none = absurd none.0
 foretold-alone setting backs rules batch asked (Crash after ∷ acts) none =
     let next = set_after rules (settled_batch rules batch asked) in
-    judged-same (settled_verdict setting.slots setting.mode rules batch asked) (foretells setting next [] Nothing acts) (any_refused setting backs next [] Nothing acts)
+    judged-same (settled_verdict setting.slots setting.mode rules batch asked) (foretells setting next [] Nothing acts) (LedTo next ∷ judgements setting backs next [] Nothing acts) (judgements setting backs rules [] Nothing acts)
     (foretold-alone setting backs next [] Nothing acts none.1)
 
 -- ---- the status that is decided

@@ -21,8 +21,9 @@ use Rattle.tcam_device.proofs.Kept.{slots-apply}
 use Rattle.commit_writes.specs.Bits.{FieldBits, bits_with, new_bits}
 use Rattle.commit_writes.specs.Commit.{IsSegment}
 use Rattle.commit_writes.specs.Segments.{MayBegin}
+use Rattle.commit_writes.specs.Shape.{fresh_writes}
 use Rattle.commit_writes.proofs.ServedLive.{bits_begun}
-use Rattle.commit_writes.proofs.ServedTables.{fresh_writes, words_state}
+use Rattle.commit_writes.proofs.ServedTables.{words_state}
 use Rattle.commit_writes.proofs.SlotsBehind.{IsCutAtSlots, cut_at_slots}
 use Rattle.commit_writes.proofs.SlotWrites.{AreToSlots}
 use Rattle.commit_writes.proofs.TableWords.{IsBitWrite, bit_writes-words}

@@ -44,7 +44,8 @@ use Rattle.replay.specs.Run.{Progress, Commits, Refuses, Judged, actions_for, af
 use Rattle.tcam_cli.proofs.OneMore.{more-behind, more-with}
 use Rattle.replay.proofs.lines.Effects.{printed-append, written-append}
 use Rattle.replay.proofs.lines.Written.{written-segment}
-use Rattle.tcam_cli.specs.AllTheWay.{Led, Stands, sets_through}
+use Rattle.tcam_cli.specs.AllTheWay.{Led, Stands, led_by, sets_through}
+use Rattle.tcam_cli.specs.Judgements.{LedTo, judged_as, judgements}
 use Rattle.json_traces.specs.Traces.{trace_text, AreTraceActs, parted_through}
 use Rattle.json_traces.proofs.EventsWithin.{TableFits, segment_tables, events_within}
 use Rattle.json_traces.proofs.TraceRules.{IsTraceChange, known_ranked}
@@ -301,7 +302,9 @@ module _ (asked : Setting) (device_slots : ℕ) (few : asked.slots ≤ most_slot
 
   -- the sets by the verdict on a commit
   abbrev sets_by : List Act → Progress → Verdict → List Led
-  sets_by acts old is = elim is [ Accepted ↦ Stands old.rules ∷ sets_through setting [] (set_after old.rules old.batch) [] Nothing acts | _ ↦ sets_through setting [] old.rules [] Nothing acts ]
+  sets_by acts old is =
+      let new = set_after old.rules old.batch in
+      Stands old.rules ∷ led_by (judged_as is (LedTo new ∷ judgements setting [] new [] Nothing acts) (judgements setting [] old.rules [] Nothing acts))
 
   -- and how many commits are accepted, of one in one part,
   abbrev counted_by : List Act → Progress → Verdict → ℕ
@@ -358,7 +361,7 @@ module _ (asked : Setting) (device_slots : ℕ) (few : asked.slots ≤ most_slot
         let settled_stands = stands_settled setting device_slots pending state few stands judged in
         let accepted : verdict setting.slots setting.mode old.rules old.batch ≡ Accepted = accepted_settled setting pending stands.at_rest.is_set stands.at_rest.right few pending.asked judged in
         let mid_state = state_after state commits.made in
-        let known = ended old state rest settled_stands accepted commits.made commits.segment commits.in_use in
+        let known = ended old state rest settled_stands accepted commits.made commits.writes.segment commits.writes.in_use in
         let mid_rest : Tracing = record known { accepted = known.accepted + 1 } in
         let actions = actions_for setting old commits.made in
         let sets = length (sets_through setting [] (set_after old.rules old.batch) [] Nothing acts) in
@@ -368,8 +371,8 @@ module _ (asked : Setting) (device_slots : ℕ) (few : asked.slots ≤ most_slot
         let led : LeadsOn pending Commit (after_segment setting old commits.made) acts (Work (map change_line old.batch) (map action_line actions)) = omega arith in
         subst (λ (some : List Effect). ActsGo (Commit ∷ acts) pending state rest (some ++ back) new) (sym commits.effects_are)
         (one_more pending state rest (carried setting old (actions_for setting old commits.made) ++ Prints (shared_line [] (line.Done (old.commits + 1))) ∷ []) (after_segment setting old commits.made) mid_state mid_rest back new Commit acts (Work (map change_line old.batch) (map action_line actions))
-        (of_same _ pending old.batch old.asked old.early state rest _ _ _ _ (commit_goes old state rest settled_stands accepted commits.made commits.segment commits.in_use)) led
-        (subst (λ p. Later acts p back new) commits.after later mid_state mid_rest (stands_behind setting device_slots old state commits.made settled_stands accepted commits.segment commits.in_use refl)))
+        (of_same _ pending old.batch old.asked old.early state rest _ _ _ _ (commit_goes old state rest settled_stands accepted commits.made commits.writes.segment commits.writes.in_use)) led
+        (subst (λ p. Later acts p back new) commits.after later mid_state mid_rest (stands_behind setting device_slots old state commits.made settled_stands accepted commits.writes.segment commits.writes.in_use refl)))
 
     refused_goes : (reason : Verdict) → LeadsOn pending Commit (after_refusal old) acts Refusal → Refuses setting old reason front mid → Goes
     refused_goes reason led refuses =
@@ -407,13 +410,13 @@ module _ (asked : Setting) (device_slots : ℕ) (few : asked.slots ≤ most_slot
         let first_accepted : verdict setting.slots setting.mode first.rules first.batch ≡ Accepted = accepted-first setting pending right in
         let between = after_segment setting first one.made in
         let between_state = state_after state one.made in
-        let known = ended first state rest first_stands first_accepted one.made one.segment one.in_use in
+        let known = ended first state rest first_stands first_accepted one.made one.writes.segment one.writes.in_use in
         let between_rest : Tracing = record known { accepted = known.accepted + 1 } in
-        let between_stands = stands_behind setting device_slots first state one.made first_stands first_accepted one.segment one.in_use refl in
+        let between_stands = stands_behind setting device_slots first state one.made first_stands first_accepted one.writes.segment one.writes.in_use refl in
         let last = at_rest pending between in
         let last_stands = stands_rest setting device_slots pending state few stands right between between_state between_stands in
         let last_accepted : verdict setting.slots setting.mode last.rules last.batch ≡ Accepted = accepted-rest setting pending right in
-        let behind_known = ended last between_state between_rest last_stands last_accepted other.made other.segment other.in_use in
+        let behind_known = ended last between_state between_rest last_stands last_accepted other.made other.writes.segment other.writes.in_use in
         let last_rest : Tracing = record behind_known { accepted = behind_known.accepted + 1 } in
         let one_actions = actions_for setting first one.made in
         let other_actions = actions_for setting last other.made in
@@ -425,11 +428,11 @@ module _ (asked : Setting) (device_slots : ℕ) (few : asked.slots ≤ most_slot
         let one_done : done_count (part_lines (first.commits + 1) one_part) ≡ 1 = done-commit first.batch one_actions (first.commits + 1) in
         let other_done : done_count (part_lines (between.commits + 1) other_part) ≡ 1 = done-commit last.batch other_actions (between.commits + 1) in
         let last_goes = one_further between between_state between_rest (carried setting last other_actions ++ Prints (shared_line [] (line.Done (last.commits + 1))) ∷ []) (after_segment setting last other.made) (state_after between_state other.made) last_rest back new other_part (suc next) next
-        (of_same other_part between last.batch last.asked last.early between_state between_rest _ _ _ _ (commit_goes last between_state between_rest last_stands last_accepted other.made other.segment other.in_use)) (omega (arith, other_done))
-        (subst (λ p. Later acts p back new) other.after later (state_after between_state other.made) last_rest (stands_behind setting device_slots last between_state other.made last_stands last_accepted other.segment other.in_use refl)) in
+        (of_same other_part between last.batch last.asked last.early between_state between_rest _ _ _ _ (commit_goes last between_state between_rest last_stands last_accepted other.made other.writes.segment other.writes.in_use)) (omega (arith, other_done))
+        (subst (λ p. Later acts p back new) other.after later (state_after between_state other.made) last_rest (stands_behind setting device_slots last between_state other.made last_stands last_accepted other.writes.segment other.writes.in_use refl)) in
         let all = one_further pending state rest (carried setting first one_actions ++ Prints (shared_line [] (line.Done (first.commits + 1))) ∷ []) between between_state between_rest
         ((carried setting last other_actions ++ Prints (shared_line [] (line.Done (last.commits + 1))) ∷ []) ++ back) new one_part (count_of pending.rules pending.batch pending.asked (Commit ∷ acts)) (suc next)
-        (of_same one_part pending first.batch first.asked first.early state rest _ _ _ _ (commit_goes first state rest first_stands first_accepted one.made one.segment one.in_use)) (omega (arith, same, one_done)) last_goes in
+        (of_same one_part pending first.batch first.asked first.early state rest _ _ _ _ (commit_goes first state rest first_stands first_accepted one.made one.writes.segment one.writes.in_use)) (omega (arith, same, one_done)) last_goes in
         subst (λ (some : List Effect). ActsGo (Commit ∷ acts) pending state rest some new)
         (ap₂ (λ (one_front : List Effect) (other_front : List Effect). one_front ++ (other_front ++ back)) (sym one.effects_are) (sym other.effects_are)
         ∙ sym (append_assoc both.front both.back back) ∙ ap (λ (some : List Effect). some ++ back) (sym both.effects_are)) all

@@ -22,12 +22,12 @@ use Rattle.tcam_device.specs.State.{State, state_after}
 use Rattle.commit_writes.specs.Bits.{FieldBits, bits_with}
 use Rattle.commit_writes.specs.Planned.{IsServedBy}
 use Rattle.commit_writes.specs.Segments.{MayBegin}
-use Rattle.commit_writes.specs.Shape.{set_pieces}
+use Rattle.commit_writes.specs.Shape.{set_pieces, fresh_writes}
 use Rattle.commit_writes.proofs.BatchRules.{IsSoundChange}
 use Rattle.commit_writes.proofs.Filters.{all_members, in_images}
 use Rattle.commit_writes.proofs.ModePieces.{whole_only}
 use Rattle.commit_writes.proofs.ServedLive.{change_begun, bits_begun}
-use Rattle.commit_writes.proofs.ServedTables.{fresh_writes, tables_serve}
+use Rattle.commit_writes.proofs.ServedTables.{tables_serve}
 use Rattle.commit_writes.proofs.SetPieces.{IsChosen, in_chosen}
 use Rattle.readback.specs.Tasks.{CommitPieces, commit_pieces, known_pieces}
 use Rattle.readback.proofs.Facts.{known_cases}

@@ -5,6 +5,7 @@ pub mod Naming
 pub mod Reports
 pub mod AskedRoutes
 pub mod Run
+pub mod Bounds
 pub mod Script
 pub mod Outside
 pub mod Carried

@@ -17,9 +17,10 @@ use Rattle.commit_writes.specs.declared.Done.{Done}
 use Rattle.commit_writes.specs.Actions.{back_from, commit_actions, up_to_writes, with_drain}
 use Rattle.commit_writes.specs.Bits.{FieldBits, no_bits, bits_with, bits_left}
 use Rattle.commit_writes.specs.Commit.{AreCounts, IsSegment}
+use Rattle.commit_writes.specs.Shape.{insertions_behind}
 use Rattle.readback.specs.Tasks.{Task}
 use Rattle.readback.specs.Stage.{IsCommitAt, IsTwinSlot}
-use Rattle.readback.specs.Going.{GoesOn, needs_drain, rest_insertions}
+use Rattle.readback.specs.Going.{GoesOn, needs_drain}
 use Rattle.batch_order.specs.Placing.{IsPlacedBy, IsRestPlacedBy}
 use Rattle.script_runs.specs.Runs as runs
 use Rattle.report_lines.specs.declared.Family.{Family}
@@ -100,30 +101,39 @@ after_return old writes = record old { batch = []; commits = old.commits + 1; wr
 abbrev pub after_refusal : Progress → Progress
 after_refusal old = record old { batch = []; commits = old.commits + 1; refused = true }
 
--- Of routes no insertion crosses others, and none takes more than 67 writes, nor more than 33 where moves overwrite; of
--- IPv6 none takes more than 129.
-abbrev pub OfFamily : Family → State → List Write → Type 0
-OfFamily Route state made = IsUncrossed 67 (insertions state made) × IsUncrossed 33 (insertions state made)
-OfFamily Acl state made = Unit {0}
-OfFamily Route6 state made = IsUncrossed 129 (insertions state made)
-OfFamily Acl6 state made = Unit {0}
+-- Of routes none of these insertions crosses others, and none takes more writes than a prefix may have lengths: 33, and of
+-- IPv6 129.
+abbrev pub OfFamily : Family → List Insertion → Type 0
+OfFamily Route made = IsUncrossed 33 made
+OfFamily Acl made = Unit {0}
+OfFamily Route6 made = IsUncrossed 129 made
+OfFamily Acl6 made = Unit {0}
 
 -- the slots in use of a device, with its tables
 abbrev pub used_slots : Setting → State → State
 used_slots setting state = record state { slots = take setting.slots state.slots }
 
--- An accepted commit makes a segment with its drain, its insertions by the placement and no others, each write with its
--- lines, and prints its numbers.
-pub record Commits (setting : Setting) (old : Progress) (effects : List Effect) (new : Progress) : Type 0 where
-  pub made : List Write
-  pub counts : Done
+-- These writes are those of an accepted commit: a segment, its insertions by the placement and no others, in the slots in
+-- use, with its numbers.
+pub record AreCommitWrites (setting : Setting) (old : Progress) (made : List Write) : Type 0 where
   pub segment : IsSegment setting.mode old.bits old.rules old.batch old.state made
   pub placed : IsPlacedBy setting.placement setting.mode old.bits old.rules old.batch (used_slots setting old.state) made
-  pub of_family : OfFamily setting.family old.state made
+  pub of_family : OfFamily setting.family (insertions old.state made)
   pub in_use : AllByRecursion (IsInUse setting.slots) made
-  pub numbers : AreCounts old.state made counts
-  pub effects_are : effects ≡ carried setting old (actions_for setting old made) ++ Prints (done_line setting.json old.early (old.commits + 1) counts) ∷ []
+  pub counts : Done
+  pub numbers : AreCounts made (insertions old.state made) counts
+
+-- An accepted commit makes its writes with its drain, each with its lines, and prints its numbers.
+pub record Commits (setting : Setting) (old : Progress) (effects : List Effect) (new : Progress) : Type 0 where
+  pub made : List Write
+  pub writes : AreCommitWrites setting old made
+  pub effects_are : effects ≡ carried setting old (actions_for setting old made) ++ Prints (done_line setting.json old.early (old.commits + 1) writes.counts) ∷ []
   pub after : new ≡ after_segment setting old made
+
+-- A commit's writes are more than so many, behind which it is taken back or crashes.
+pub record GoesPast (setting : Setting) (old : Progress) (most : ℕ) (made : List Write) : Type 0 where
+  pub writes : AreCommitWrites setting old made
+  pub more : most < length made
 
 -- the actions of a commit that is taken back right after so many writes: no drain that is due then is made
 abbrev pub actions_back : Setting → Progress → ℕ → List Write → List Action
@@ -133,11 +143,7 @@ actions_back setting old most made = back_from old.state (up_to_writes most (act
 -- many both ways.
 pub record Returns (setting : Setting) (old : Progress) (most : ℕ) (effects : List Effect) (new : Progress) : Type 0 where
   pub made : List Write
-  pub more : most < length made
-  pub segment : IsSegment setting.mode old.bits old.rules old.batch old.state made
-  pub placed : IsPlacedBy setting.placement setting.mode old.bits old.rules old.batch (used_slots setting old.state) made
-  pub of_family : OfFamily setting.family old.state made
-  pub in_use : AllByRecursion (IsInUse setting.slots) made
+  pub past : GoesPast setting old most made
   pub effects_are : effects ≡ carried setting old (actions_back setting old most made) ++ Prints (aborted_line (old.commits + 1) (2 * most)) ∷ []
   pub after : new ≡ after_return old (2 * most)
 
@@ -145,23 +151,6 @@ pub record Returns (setting : Setting) (old : Progress) (most : ℕ) (effects : 
 abbrev pub Tries : ℕ → Setting → Progress → List Effect → Progress → Type 0
 Tries most setting old effects new =
     ((commits : Commits setting old effects new) × (length commits.made ≤ most)) ⊎ Returns setting old most effects new
-
--- Of routes no insertion that is still to come crosses others, and none takes more writes than a prefix may have lengths.
-abbrev pub RestOfFamily : Family → List Insertion → Type 0
-RestOfFamily Route made = IsUncrossed 33 made
-RestOfFamily Acl made = Unit {0}
-RestOfFamily Route6 made = IsUncrossed 129 made
-RestOfFamily Acl6 made = Unit {0}
-
--- These writes are planned for a commit, and they are more than those that it makes before it crashes.
-pub record CrashesIn (setting : Setting) (old : Progress) (after : ℕ) (made : List Write) : Type 0 where
-  pub segment : IsSegment setting.mode old.bits old.rules old.batch old.state made
-  pub placed : IsPlacedBy setting.placement setting.mode old.bits old.rules old.batch (used_slots setting old.state) made
-  pub of_family : OfFamily setting.family old.state made
-  pub in_use : AllByRecursion (IsInUse setting.slots) made
-  pub counts : Done
-  pub numbers : AreCounts old.state made counts
-  pub more : after < length made
 
 -- its actions up to the crash: a drain that is due then isn't made
 abbrev pub actions_before : Setting → Progress → ℕ → List Write → List Action
@@ -182,7 +171,7 @@ actions_over setting old after made rest =
 -- writes came before the crash, and how many there were.
 pub record Restarts (setting : Setting) (old : Progress) (after : ℕ) (effects : List Effect) (new : Progress) : Type 0 where
   pub made : List Write
-  pub crash : CrashesIn setting old after made
+  pub crash : GoesPast setting old after made
   pub done : List Task
   pub left : List Task
   pub stage : IsCommitAt setting.slots setting.mode old.bits old.rules old.batch (crash_state old after made) done left
@@ -191,7 +180,7 @@ pub record Restarts (setting : Setting) (old : Progress) (after : ℕ) (effects 
   pub rest : List Write
   pub goes_on : GoesOn setting.slots setting.mode old.bits old.rules old.batch (crash_state old after made) left twin rest
   pub placed : (device_slots : ℕ) × IsRestPlacedBy setting.placement device_slots (proposal setting.mode old.bits old.rules old.batch) (used_slots setting (crash_state old after made)) done left twin rest
-  pub of_family : RestOfFamily setting.family (rest_insertions goes_on.shape)
+  pub of_family : OfFamily setting.family (insertions_behind goes_on.shape)
   pub in_use : AllByRecursion (IsInUse setting.slots) rest
   pub effects_are : effects ≡ carried setting old (actions_over setting old after made rest) ++ Prints (restarted_line (old.commits + 1) after (after + length rest)) ∷ []
   pub new_is : new ≡ after_segment setting old (take after made ++ rest)
@@ -251,7 +240,7 @@ pub record IsCutBeforeCrash (setting : Setting) (before : Progress) (act : Act) 
   pub act_is : act ≡ Crash after
   pub accepted : pending_verdict setting before ≡ Accepted
   pub made : List Write
-  pub crash : CrashesIn setting (settled_at before) after made
+  pub crash : GoesPast setting (settled_at before) after made
   pub back : List Effect
   pub parts : carried_so_far setting (settled_at before) (actions_before setting (settled_at before) after made) ≡ effects ++ due ∷ back
 
@@ -264,7 +253,7 @@ IsCutStep setting before act effects due =
 -- in flight then are never searched.
 pub record StopsAtCrash (setting : Setting) (before : Progress) (after : ℕ) (effects : List Effect) : Type 0 where
   pub made : List Write
-  pub crash : CrashesIn setting before after made
+  pub crash : GoesPast setting before after made
   pub effects_are : effects ≡ carried_so_far setting before (actions_before setting before after made)
 
 -- What a commit takes memory for before it does anything: a strict batch that is accepted, and whatever is to be settled.

@@ -1,7 +1,13 @@
-//! Laws as calls without a body: what holds of a commit that crashed, and of one in two parts.
+//! Laws as calls without a body: what holds of a commit of routes, of one that crashed, and of one in two parts.
 
+ghost use Rattle.replay.specs.Bounds.{RoutesAreWithinBound};
 ghost use Rattle.replay.specs.Crash.{CrashedPartsAreOldOrNew};
 ghost use Rattle.replay.specs.Early.{RestsAreTaken, TwoPartsAreOneCommit};
+
+/// An insertion of a route takes no more writes than the bound for its chains of 33 gives.
+pub fn routes_are_within_bound()
+    ensures { RoutesAreWithinBound }
+{}
 
 /// After each write of a commit that crashed and was gone on with every key has the old or the new answer, and the new
 /// one in the end.

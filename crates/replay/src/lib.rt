@@ -134,7 +134,10 @@ mod watch;
 
 pub use batch_order::{Mode, Placement};
 pub use early::goes_in_two;
-pub use laws::{crashed_parts_are_old_or_new, rests_are_taken, two_parts_are_one_commit};
+pub use laws::{
+    crashed_parts_are_old_or_new, rests_are_taken, routes_are_within_bound,
+    two_parts_are_one_commit,
+};
 pub use report::{write_no, write_yes};
 pub use report_lines::{Family, write_fault, write_text};
 use rule_model::Key;

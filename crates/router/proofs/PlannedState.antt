@@ -24,7 +24,7 @@ use Rattle.commit_writes.specs.Bits.{bits_with, new_bits}
 use Rattle.commit_writes.specs.Commit.{IsSegment}
 use Rattle.commit_writes.specs.PlannedBatch.{batch_writes}
 use Rattle.commit_writes.specs.Segments.{MayBegin}
-use Rattle.commit_writes.proofs.ServedTables.{fresh_writes}
+use Rattle.commit_writes.specs.Shape.{fresh_writes}
 use Rattle.commit_writes.proofs.Wider.{all_back}
 use Rattle.commit_writes.proofs.WritesIn.{writes_of_commit}
 use Rattle.batch_order.specs.CarriedOut.{finished}
@@ -151,10 +151,10 @@ module _ (m : SplitManaged) (batch : List Command) (counts : SplitDone) (m' : Sp
     live = planner.placed.live;
     arrangement = planner.placed.arrangement;
     entries = planner.placed.entries;
-    planned = planner.placed.planned;
-    rewrites = planner.placed.rewrites;
-    erased = planner.placed.erased;
-    commit = planner.placed.commit;
+    planned = planner.placed.parts.planned;
+    rewrites = planner.placed.parts.rewrites;
+    erased = planner.placed.parts.erased;
+    commit = planner.placed.plan;
     writes_are = planner.placed.writes_are;
   }
 
@@ -183,19 +183,19 @@ module _ (m : SplitManaged) (batch : List Command) (counts : SplitDone) (m' : Sp
   exact_on slots wide =
       let state : SplitState = state_on slots m in
       let plan : IsPlacedBy m.whole.placement m.whole.mode m.whole.bits m.whole.rules batch m.whole.state writes = planner.placed in
-      let all : List Write = fresh_writes m.whole.mode m.whole.bits m.whole.rules batch m.whole.state ++ batch_writes plan.entries plan.arrangement plan.planned plan.rewrites plan.erased in
-      let inside = all_back (IsInUse (length state.slots)) (fresh_writes m.whole.mode m.whole.bits m.whole.rules batch m.whole.state) (batch_writes plan.entries plan.arrangement plan.planned plan.rewrites plan.erased)
+      let all : List Write = fresh_writes m.whole.mode m.whole.bits m.whole.rules batch m.whole.state ++ batch_writes plan.entries plan.arrangement plan.parts.planned plan.parts.rewrites plan.parts.erased in
+      let inside = all_back (IsInUse (length state.slots)) (fresh_writes m.whole.mode m.whole.bits m.whole.rules batch m.whole.state) (batch_writes plan.entries plan.arrangement plan.parts.planned plan.parts.rewrites plan.parts.erased)
       (subst (AllByRecursion (IsInUse (length state.slots))) plan.writes_are (within slots wide)) in
       let more : ℕ = slots - length m.whole.state.slots in
       let parted : AllZip IsParted (insertions (undivided state) writes) (split_insertions state (written (made_on_device slots))) =
       subst (λ some. AllZip IsParted (insertions (undivided state) some) (split_insertions state (written (made_on_device slots)))) (sym plan.writes_are)
       (subst (λ parts. AllZip IsParted (insertions (undivided state) all) (split_insertions state parts)) (sym (parts_are slots wide ∙ ap (parts_of_writes (undivided state)) plan.writes_are))
-      (commit_parted m.whole.mode m.whole.bits m.whole.rules batch m.whole.state plan.live plan.arrangement plan.entries plan.planned plan.rewrites plan.erased more state (sized_on slots m)
-      (stands.on slots wide) plan.commit inside)) in
+      (commit_parted m.whole.mode m.whole.bits m.whole.rules batch m.whole.state plan.live plan.arrangement plan.entries plan.parts.planned plan.parts.rewrites plan.parts.erased more state (sized_on slots m)
+      (stands.on slots wide) plan.plan inside)) in
       let exactly : AllByRecursion IsExactly (insertions (undivided state) writes) =
       subst (λ some. AllByRecursion IsExactly (insertions (undivided state) some)) (sym plan.writes_are)
-      (commit_split_exact m.whole.mode m.whole.bits m.whole.rules batch m.whole.state plan.live plan.arrangement plan.entries plan.planned plan.rewrites plan.erased more state (sized_on slots m)
-      (stands.on slots wide) plan.commit inside) in
+      (commit_split_exact m.whole.mode m.whole.bits m.whole.rules batch m.whole.state plan.live plan.arrangement plan.entries plan.parts.planned plan.parts.rewrites plan.parts.erased more state (sized_on slots m)
+      (stands.on slots wide) plan.plan inside) in
       three_each (insertions (undivided state) writes) (split_insertions state (written (made_on_device slots))) exactly parted
 
   abbrev segment_on : (slots : ℕ) (wide : m.whole.slots ≤ slots) → IsSplitSegment m.whole.mode m.whole.bits m.whole.rules batch (state_on slots m) (since_of m) (made_on_device slots)

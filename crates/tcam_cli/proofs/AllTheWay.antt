@@ -253,14 +253,14 @@ module _ (Ends : Type 0) where
   goes-commit setting old front mid acts back shown step more =
       let new : List Rule = set_after old.rules (settled_at old).batch in
       let P : Progress → Type 0 = λ p. Later setting p acts back in
-      let last = subst P step.after more step.segment.hitless.after in
+      let last = subst P step.after more step.writes.segment.hitless.after in
       let sets : List Led = sets_through setting last.0 new [] Nothing acts in
       let made : step.made ++ back ≡ journal_of front ++ back =
       sym (ap (λ writes. writes ++ back) (ap journal_of step.effects_are ∙ written-segment setting (settled_at old) step.made _)) in (
         last.0,
         subst (λ writes. Goes old.state (Stands old.rules ∷ sets) writes) made (
-          segment (Stands old.rules) (Stands new) sets old.state step.made back (first-set setting last.0 new [] Nothing acts) step.segment.hitless.on_the_way.during
-              (shows-first (state_after old.state step.made) setting last.0 new acts step.segment.hitless.after) last.1.0,
+          segment (Stands old.rules) (Stands new) sets old.state step.made back (first-set setting last.0 new [] Nothing acts) step.writes.segment.hitless.on_the_way.during
+              (shows-first (state_after old.state step.made) setting last.0 new acts step.writes.segment.hitless.after) last.1.0,
           λ ends. ends-behind old.state (Stands old.rules) sets step.made back shown (last.1.1 ends),
         ),
       )
@@ -295,7 +295,7 @@ module _ (Ends : Type 0) where
       let sets : List Led = sets_through setting last.0 new [] Nothing acts in
       let same : made ++ back ≡ journal_of front ++ back = sym (ap (λ writes. writes ++ back) (written-restarts setting (settled_at old) mid after front step)) in
       let during : (n : ℕ) → ShowsOldOrNew (state_after old.state (take n made)) old.rules new =
-      joined old.rules new old.state step.made step.rest after step.crash.more step.crash.segment.hitless.on_the_way.during step.goes_on.during in (
+      joined old.rules new old.state step.made step.rest after step.crash.more step.crash.writes.segment.hitless.on_the_way.during step.goes_on.during in (
         last.0,
         subst (λ writes. Goes old.state (Stands old.rules ∷ sets) writes) same (
           segment (Stands old.rules) (Stands new) sets old.state made back (first-set setting last.0 new [] Nothing acts) during (shows-first (state_after old.state made) setting last.0 new acts shows) last.1.0,
@@ -314,10 +314,10 @@ module _ (Ends : Type 0) where
       let there : List Write = take most step.made in
       let undo : List Write = undo_writes old.state there in
       let begins : state_after (state_after old.state there) undo ≡ old.state = sym (state_after-append old.state there undo) ∙ undo_ends old.state there in
-      let during : (n : ℕ) → ShowsOldOrNew (state_after old.state (take n step.made)) old.rules new = step.segment.hitless.on_the_way.during in
+      let during : (n : ℕ) → ShowsOldOrNew (state_after old.state (take n step.made)) old.rules new = step.past.writes.segment.hitless.on_the_way.during in
       let on : (n : ℕ) → ShowsOldOrNew (state_after old.state (take n there)) old.rules new =
       λ n. (let few = min n (length there) in
-      let enough = step.more in
+      let enough = step.past.more in
       let size : length there ≡ most = length-take-le most step.made (omega arith) in
       let within : few ≤ most = subst (λ size. few ≤ size) size (min-le_right n (length there)) in
       subst (λ writes. ShowsOldOrNew (state_after old.state writes) old.rules new) (sym (take-take few most step.made within) ∙ take_min n there) (during few)) in

@@ -1,5 +1,5 @@
 -- What some command lines ask for, by computation.
-use Rattle.std.proofs.Common.{◌≡◌, true, false, [], ◌∷◌, refl}
+use Rattle.std.proofs.Common.{◌≡◌, true, false, None, Some, [], ◌∷◌, refl}
 use Rattle.std.specs.Prelude.{⊤, codes}
 use Rattle.slot_order.specs.Order.{most_slots}
 use Rattle.clap.proofs.OnLiterals.{clap_on_literals}
@@ -9,7 +9,8 @@ use Rattle.report_lines.specs.declared.Family.TheVariants.{Route, Acl, Route6, A
 use Rattle.option_words.specs.Options.{number_position, placement_option, ranges_option, slots_option, trace_flag}
 use Rattle.tcam_cli.specs.CommandLine.{acl_app, depth_option, gen_app, job_of, route_app, script_setting, tcam_app, tcam_top, json_flag, names_flag, removals_option, verify_app}
 use Rattle.tcam_cli.specs.Headline.{NoJob, Tells, Reads, Makes, Verifies}
-use Rattle.tcam_cli.specs.OwnTexts.{acl_help, acl6_help, gen_help, help_text, route_help, verify_help, version_text}
+use Rattle.tcam_cli.specs.OwnTexts.{HelpOn, Version}
+use Rattle.tcam_cli.specs.declared.own_texts.Topic.TheVariants as about
 
 -- what a proof unfolds to compute what words ask for
 unfoldable the_declaration : ⊤
@@ -52,15 +53,15 @@ no-ranges-of-six : job_of (codes "tcam" ∷ codes "route6" ∷ codes "--ranges" 
 unfolding the_declaration
 no-ranges-of-six = refl
 
-help-of-six : job_of (codes "tcam" ∷ codes "acl6" ∷ codes "--help" ∷ []) ≡ Tells acl6_help
+help-of-six : job_of (codes "tcam" ∷ codes "acl6" ∷ codes "--help" ∷ []) ≡ Tells (HelpOn (Some about.Acl6))
 unfolding the_declaration
 help-of-six = refl
 
-version : job_of (codes "tcam" ∷ codes "--version" ∷ []) ≡ Tells version_text
+version : job_of (codes "tcam" ∷ codes "--version" ∷ []) ≡ Tells Version
 unfolding the_declaration
 version = refl
 
-help-of-routes : job_of (codes "tcam" ∷ codes "route" ∷ codes "--slots" ∷ codes "8" ∷ codes "-h" ∷ []) ≡ Tells route_help
+help-of-routes : job_of (codes "tcam" ∷ codes "route" ∷ codes "--slots" ∷ codes "8" ∷ codes "-h" ∷ []) ≡ Tells (HelpOn (Some about.Route))
 unfolding the_declaration
 help-of-routes = refl
 
@@ -68,11 +69,11 @@ no-help-command : job_of (codes "tcam" ∷ codes "help" ∷ []) ≡ NoJob
 unfolding the_declaration
 no-help-command = refl
 
-help : job_of (codes "tcam" ∷ codes "--help" ∷ []) ≡ Tells help_text
+help : job_of (codes "tcam" ∷ codes "--help" ∷ []) ≡ Tells (HelpOn None)
 unfolding the_declaration
 help = refl
 
-help-before-a-subcommand : job_of (codes "tcam" ∷ codes "-h" ∷ codes "acl" ∷ []) ≡ Tells help_text
+help-before-a-subcommand : job_of (codes "tcam" ∷ codes "-h" ∷ codes "acl" ∷ []) ≡ Tells (HelpOn None)
 unfolding the_declaration
 help-before-a-subcommand = refl
 
@@ -108,7 +109,7 @@ both : job_of (codes "tcam" ∷ codes "acl" ∷ codes "route" ∷ []) ≡ NoJob
 unfolding the_declaration
 both = refl
 
-help-of-lists : job_of (codes "tcam" ∷ codes "acl" ∷ codes "--help" ∷ []) ≡ Tells acl_help
+help-of-lists : job_of (codes "tcam" ∷ codes "acl" ∷ codes "--help" ∷ []) ≡ Tells (HelpOn (Some about.Acl))
 unfolding the_declaration
 help-of-lists = refl
 
@@ -308,7 +309,7 @@ made-in-no-such-word : job_of (codes "tcam" ∷ codes "gen" ∷ codes "1" ∷ co
 unfolding the_declaration
 made-in-no-such-word = refl
 
-help-of-made-commands : job_of (codes "tcam" ∷ codes "gen" ∷ codes "--help" ∷ []) ≡ Tells gen_help
+help-of-made-commands : job_of (codes "tcam" ∷ codes "gen" ∷ codes "--help" ∷ []) ≡ Tells (HelpOn (Some about.Gen))
 unfolding the_declaration
 help-of-made-commands = refl
 
@@ -324,6 +325,6 @@ checked-by-a-name : job_of (codes "tcam" ∷ codes "verify" ∷ codes "trace.jso
 unfolding the_declaration
 checked-by-a-name = refl
 
-help-of-checks : job_of (codes "tcam" ∷ codes "verify" ∷ codes "--help" ∷ []) ≡ Tells verify_help
+help-of-checks : job_of (codes "tcam" ∷ codes "verify" ∷ codes "--help" ∷ []) ≡ Tells (HelpOn (Some about.Verify))
 unfolding the_declaration
 help-of-checks = refl

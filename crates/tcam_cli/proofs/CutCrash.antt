@@ -10,7 +10,7 @@ use Rattle.commit_writes.specs.Actions.{up_to_writes}
 use Rattle.replay.specs.declared.Act.{Act}
 use Rattle.replay.specs.declared.Act.TheVariants.{Commit}
 use Rattle.replay.specs.Effects.{Setting, Effect, Prints, effects_of, flushed, probes_told, waiting_after}
-use Rattle.replay.specs.Run.{Progress, Commits, CrashesIn, HasEffects, IsCutBeforeCrash, Judged, StopsAtCrash, actions_before, actions_for, after_segment, carried_so_far, pending_verdict, settled_at}
+use Rattle.replay.specs.Run.{Progress, Commits, GoesPast, HasEffects, IsCutBeforeCrash, Judged, StopsAtCrash, actions_before, actions_for, after_segment, carried_so_far, pending_verdict, settled_at}
 use Rattle.replay.specs.Reports.{done_line}
 use Rattle.replay.proofs.lines.Opened.{carried-append}
 
@@ -34,19 +34,14 @@ pub record AsCommit (setting : Setting) (before : Progress) (front : List Effect
   pub after : Progress
   pub step : HasEffects setting before Commit (front ++ back) after
 
-pub as-commit : (setting : Setting) (before : Progress) (after : ℕ) (made : List Write) → pending_verdict setting before ≡ Accepted → CrashesIn setting (settled_at before) after made
+pub as-commit : (setting : Setting) (before : Progress) (after : ℕ) (made : List Write) → pending_verdict setting before ≡ Accepted → GoesPast setting (settled_at before) after made
     → AsCommit setting before (carried_so_far setting (settled_at before) (actions_before setting (settled_at before) after made))
 as-commit setting before after made accepted crash = record {
   back = behind ++ (end ++ line);
   after = after_segment setting (settled_at before) made;
   step = subst (λ verdict. Judged Commits setting (settled_at before) verdict (front ++ (behind ++ (end ++ line))) (after_segment setting (settled_at before) made)) (sym accepted) (record {
     made = made;
-    counts = crash.counts;
-    segment = crash.segment;
-    placed = crash.placed;
-    of_family = crash.of_family;
-    in_use = crash.in_use;
-    numbers = crash.numbers;
+    writes = crash.writes;
     effects_are = sym (append_assoc front behind (end ++ line)) ∙ ap (λ effects. effects ++ (end ++ line)) (sym parts) ∙ sym (append_assoc (carried_so_far setting (settled_at before) actions) end line);
     after = refl;
   });
@@ -71,7 +66,7 @@ as-commit setting before after made accepted crash = record {
     end = flushed setting.family (probes_told setting.json (settled_at before).probes) (length (writes_in actions)) (state_after (settled_at before).state (writes_in actions)) (waiting_after setting.depth 0 actions)
 
     line : List Effect
-    line = Prints (done_line setting.json (settled_at before).early ((settled_at before).commits + 1) crash.counts) ∷ []
+    line = Prints (done_line setting.json (settled_at before).early ((settled_at before).commits + 1) crash.writes.counts) ∷ []
 
     parts : carried_so_far setting (settled_at before) actions ≡ front ++ behind
     parts = ap (carried_so_far setting (settled_at before)) (sym (front-and-rest after actions)) ∙ carried-append setting (settled_at before) first rest

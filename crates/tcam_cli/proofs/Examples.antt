@@ -37,6 +37,7 @@ use Rattle.commit_writes.specs.Bits.{no_bits}
 use Rattle.commit_writes.specs.Commit.{HoldsInOrder, IsSegment}
 use Rattle.commit_writes.specs.Planned.{AreArranged}
 use Rattle.commit_writes.specs.PlannedBatch.{IsPlannedBatch}
+use Rattle.commit_writes.specs.Shape.{due_of, HasShape}
 use Rattle.batch_order.specs.declared.Placement.TheVariants.{Middle}
 use Rattle.batch_order.specs.Placing.{IsPlacedBy}
 use Rattle.tcam_cli.specs.Readings.{reading}
@@ -239,19 +240,16 @@ nothing-made =
             copies = λ n within. rw take-nil blank-twins;
           };
       shape =
-          record {
-            tables = [];
+          subst (λ front. HasShape front (due_of Cover no_bits [] []) (State.blank 8) []) (sym (bit_writes-none (State.blank 8))) record {
             inserted = [];
             rewritten = [];
             erased = [];
             parts = refl;
-            words = sym (bit_writes-none (State.blank 8));
             whole = refl;
             entries = refl;
             results = tt;
             erases = tt;
           };
-      bound = λ chain is. tt;
       tight = λ chain is. tt;
     }
 
@@ -283,11 +281,8 @@ nothing-placed =
       live = [];
       arrangement = no-ids;
       entries = [];
-      planned = [];
-      rewrites = [];
-      erased = [];
-      stands = refl;
-      commit = subst (λ writes. IsPlannedBatch (proposal Cover no_bits [] []) (State.state_after (State.blank 8) writes) [] no-ids [] [] [] []) (sym (bit_writes-none (State.blank 8)))
+      parts = record { planned = []; rewrites = []; erased = [] };
+      plan = subst (λ writes. IsPlannedBatch (proposal Cover no_bits [] []) (State.state_after (State.blank 8) writes) [] no-ids [] [] [] []) (sym (bit_writes-none (State.blank 8)))
           record {
             is_state = IsState-blank 8;
             mirrors = refl;
@@ -333,17 +328,20 @@ accepted = (
           [],
           record {
             made = [];
-            counts = none-counted;
-            segment = nothing-made;
-            placed = nothing-placed;
-            of_family = (tt, tt);
-            in_use = tt;
-            numbers =
+            writes =
                 record {
-                  writes = refl;
-                  words = refl;
-                  most = refl;
-                  span = record { no_less = tt; no_more = inl refl };
+                  segment = nothing-made;
+                  placed = nothing-placed;
+                  of_family = tt;
+                  in_use = tt;
+                  counts = none-counted;
+                  numbers =
+                      record {
+                        writes = refl;
+                        words = refl;
+                        most = refl;
+                        span = record { no_less = tt; no_more = inl refl };
+                      };
                 };
             effects_are = refl;
             after = refl;

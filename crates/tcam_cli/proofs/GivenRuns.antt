@@ -15,6 +15,7 @@ use Rattle.replay.specs.declared.RunFault.TheVariants as run_fault
 use Rattle.replay.specs.Effects.{Setting}
 use Rattle.replay.specs.Run.{Progress}
 use Rattle.tcam_cli.specs.Headline.{Job, NoJob, Tells, Reads, IsCarriedOut, MayEnd, run_kind}
+use Rattle.tcam_cli.specs.OwnTexts.{OwnText}
 use Rattle.tcam_cli.specs.Rounds.{status_of_fault}
 use Rattle.tcam_cli.specs.Given.{IsPromisedByGiven}
 use Rattle.tcam_cli.proofs.WholeRun.{carried, may-end}
@@ -70,9 +71,9 @@ promised-none job slots status given taken_old taken_new events carries ends = (
       record { carried_out = here; hitless = hitless-job job slots status (Some left) (Some now) taken_old taken_new events here; ends = ends (Some left) },
 )
 
-pub may-tell : (text line : List ℕ) (result : Status) (before after : Option (List ℕ)) (left : Option (List ℕ)) → Closes line Done result before after → MayEnd result (Tells text) left
-may-tell text line result before after left (inl (e, whole)) = subst (λ s. MayEnd s (Tells text) left) (sym e) ([], refl)
-may-tell text line result before after left (inr (e, part)) = subst (λ s. MayEnd s (Tells text) left) (sym e) tt
+pub may-tell : (own : OwnText) (line : List ℕ) (result : Status) (before after : Option (List ℕ)) (left : Option (List ℕ)) → Closes line Done result before after → MayEnd result (Tells own) left
+may-tell own line result before after left (inl (e, whole)) = subst (λ s. MayEnd s (Tells own) left) (sym e) ([], refl)
+may-tell own line result before after left (inr (e, part)) = subst (λ s. MayEnd s (Tells own) left) (sym e) tt
 
 pub may-usage : (line : List ℕ) (result : Status) (before after : Option (List ℕ)) (left : Option (List ℕ)) → Closes line Usage result before after → MayEnd result NoJob left
 may-usage line result before after left (inl (e, whole)) = subst (λ s. MayEnd s NoJob left) (sym e) refl

@@ -89,7 +89,7 @@ as-commits setting slots script done after later body front before acts run acce
     let written : journal_of (front ++ whole.back) ≡ commits.made = ap journal_of commits.effects_are ∙ written-segment setting (settled_at before) commits.made _ in
     within setting slots script done (Crash after) later body front before acts run (whole_set before)
     (ap (sets_judged setting [] before.rules (settled_at before).batch later) accepted)
-    (first-during before.state before.rules (whole_set before) (journal_of front) (journal_of whole.back) commits.made (sym written ∙ written-append front whole.back) commits.segment.hitless.on_the_way.during)
+    (first-during before.state before.rules (whole_set before) (journal_of front) (journal_of whole.back) commits.made (sym written ∙ written-append front whole.back) commits.writes.segment.hitless.on_the_way.during)
 
 -- the writes before a crash
 before-crash : (setting : Setting) (slots : ℕ) (script : Script) (effects : List Effect) (due : Effect) (at : IsAtAct (run_kind setting slots) script effects due) → IsCutBeforeCrash setting at.before at.act at.front due
@@ -273,8 +273,8 @@ last-line (action ∷ made) (effect ∷ front) back line text is =
 last-judged : (setting : Setting) (before : Progress) (is : Verdict) (front back : List Effect) (line : List ℕ) (after : Progress)
     → setting.trace ≡ false → setting.json ≡ false → before.probes ≡ [] → Judged Commits setting before is (front ++ Prints line ∷ back) after → back ≡ []
 last-judged setting before Accepted front back line after quiet words none step =
-    last-line (actions_for setting before step.made) front back line (done_line setting.json before.early (before.commits + 1) step.counts)
-    (step.effects_are ∙ ap (λ effects. effects ++ Prints (done_line setting.json before.early (before.commits + 1) step.counts) ∷ []) (quiet-carried setting before (actions_for setting before step.made) quiet words none))
+    last-line (actions_for setting before step.made) front back line (done_line setting.json before.early (before.commits + 1) step.writes.counts)
+    (step.effects_are ∙ ap (λ effects. effects ++ Prints (done_line setting.json before.early (before.commits + 1) step.writes.counts) ∷ []) (quiet-carried setting before (actions_for setting before step.made) quiet words none))
 last-judged setting before (Unsound fault) front back line after quiet words none step = last-line [] front back line _ step.0
 last-judged setting before (OutOfBits field needed free) front back line after quiet words none step = last-line [] front back line _ step.0
 last-judged setting before (OutOfSlots needed free) front back line after quiet words none step = last-line [] front back line _ step.0
@@ -401,7 +401,7 @@ outcome_answers setting slots script came Usage effects partial first is = absur
 pub hitless-job : (job : Job) (slots : ℕ) (status : Status) (left_old left_new taken_old taken_new : Option (List ℕ)) (events : List Action)
     → IsCarriedOut job slots status left_old left_new taken_old taken_new events → IsHitlessJob job slots status left_old left_new (writes_in events)
 hitless-job NoJob slots status left_old left_new taken_old taken_new events is = ap writes_in is.1
-hitless-job (Tells text) slots status left_old left_new taken_old taken_new events is = ap writes_in is.1
+hitless-job (Tells own) slots status left_old left_new taken_old taken_new events (text, is, told) = ap writes_in told.1
 hitless-job (Reads setting) slots status None left_new taken_old taken_new events is = tt
 hitless-job (Reads setting) slots status (Some old) None taken_old taken_new events is = tt
 hitless-job (Reads setting) slots status (Some old) (Some new) taken_old taken_new events is =

@@ -22,7 +22,7 @@ so-far-at setting slots bytes held left last events start taken s = run-at setti
 -- a job that reads nothing
 pub nothing-read : (job : Job) (slots : ℕ) (status : Status) (given : List (List ℕ)) (events : List Action) (accepted : List ℕ) → status ≢ ReadFault → ReadsInTime job slots status given given events accepted accepted
 nothing-read NoJob slots status given events accepted other = refl
-nothing-read (Tells text) slots status given events accepted other = refl
+nothing-read (Tells own) slots status given events accepted other = refl
 nothing-read (Makes setting seed rules batches) slots status given events accepted other = refl
 nothing-read (Reads setting) slots status given events accepted other = nothing-in-time (run_kind setting slots) status given events accepted
 nothing-read Verifies slots status given events accepted other =

@@ -11,70 +11,31 @@ use Rattle.settled_changes.specs.declared.requested.Requested.TheVariants.{Nothi
 use Rattle.settled_changes.specs.Requested.{asked_behind, asked_with, batch_behind, batch_with, settled_batch, settled_verdict}
 use Rattle.replay.specs.Early.{commit_verdict}
 use Rattle.replay.specs.Effects.{Setting}
-use Rattle.tcam_cli.specs.AllTheWay.{Led, Stands, TakenBack, sets_through}
-use Rattle.tcam_cli.specs.Headline.{is_back}
+use Rattle.tcam_cli.specs.AllTheWay.{Led, Stands, TakenBack, led_by, sets_through}
+use Rattle.tcam_cli.specs.Judgements.{Judgement, LedTo, LedBack, is_back, judged_as, judgements}
 
 -- the sets by the verdict on a commit
 abbrev pub sets_judged : Setting → List Bool → List Rule → List Change → List Act → Verdict → List Led
 sets_judged setting backs rules batch acts is =
-    elim is [
-      | Accepted ↦ Stands rules ∷ sets_through setting backs (set_after rules batch) [] Nothing acts
-      | _ ↦ sets_through setting backs rules [] Nothing acts
-    ]
+    let new = set_after rules batch in
+    Stands rules ∷ led_by (judged_as is (LedTo new ∷ judgements setting backs new [] Nothing acts) (judgements setting backs rules [] Nothing acts))
 
 -- and on a trial, which is taken back or not
-abbrev pub sets_tried : Setting → List Bool → List Rule → List Change → List Act → Bool → List Led
-sets_tried setting backs rules batch acts back =
+abbrev pub tried_as : Setting → List Bool → List Rule → List Change → List Act → Bool → List Judgement
+tried_as setting backs rules batch acts back =
+    let new = set_after rules batch in
     elim back [
-      | true ↦ Stands rules ∷ TakenBack (set_after rules batch) ∷ sets_through setting backs rules [] Nothing acts
-      | false ↦ Stands rules ∷ sets_through setting backs (set_after rules batch) [] Nothing acts
+      | true ↦ LedBack new rules ∷ judgements setting backs rules [] Nothing acts
+      | false ↦ LedTo new ∷ judgements setting backs new [] Nothing acts
     ]
 
 abbrev pub trial_judged : Setting → List Bool → List Rule → List Change → List Act → Verdict → List Led
 trial_judged setting backs rules batch acts is =
-    elim is [
-      | Accepted ↦ sets_tried setting (drop 1 backs) rules batch acts (is_back backs)
-      | _ ↦ sets_through setting backs rules [] Nothing acts
-    ]
+    Stands rules ∷ led_by (judged_as is (tried_as setting (drop 1 backs) rules batch acts (is_back backs)) (judgements setting backs rules [] Nothing acts))
 
 -- the first set is the one before the acts
-abbrev StartsAt : List Rule → List Led → Type 0
-StartsAt rules sets = (behind : List Led) × (sets ≡ Stands rules ∷ behind)
-
-starts-judged : (setting : Setting) (backs : List Bool) (rules : List Rule) (batch : List Change) (acts : List Act) (is : Verdict)
-    → StartsAt rules (sets_through setting backs rules [] Nothing acts) → StartsAt rules (sets_judged setting backs rules batch acts is)
-starts-judged setting backs rules batch acts Accepted more = (sets_through setting backs (set_after rules batch) [] Nothing acts, refl)
-starts-judged setting backs rules batch acts (Unsound fault) more = more
-starts-judged setting backs rules batch acts (OutOfBits field needed free) more = more
-starts-judged setting backs rules batch acts (OutOfSlots needed free) more = more
-
-starts-back : (setting : Setting) (backs : List Bool) (rules : List Rule) (batch : List Change) (acts : List Act) (back : Bool) → StartsAt rules (sets_tried setting backs rules batch acts back)
-starts-back setting backs rules batch acts true = (TakenBack (set_after rules batch) ∷ sets_through setting backs rules [] Nothing acts, refl)
-starts-back setting backs rules batch acts false = (sets_through setting backs (set_after rules batch) [] Nothing acts, refl)
-
-starts-tried : (setting : Setting) (backs : List Bool) (rules : List Rule) (batch : List Change) (acts : List Act) (is : Verdict)
-    → StartsAt rules (sets_through setting backs rules [] Nothing acts) → StartsAt rules (trial_judged setting backs rules batch acts is)
-starts-tried setting backs rules batch acts Accepted more = starts-back setting (drop 1 backs) rules batch acts (is_back backs)
-starts-tried setting backs rules batch acts (Unsound fault) more = more
-starts-tried setting backs rules batch acts (OutOfBits field needed free) more = more
-starts-tried setting backs rules batch acts (OutOfSlots needed free) more = more
-
-starts : (setting : Setting) (backs : List Bool) (rules : List Rule) (batch : List Change) (asked : Requested) (acts : List Act) → StartsAt rules (sets_through setting backs rules batch asked acts)
-starts setting backs rules batch asked [] = ([], refl)
-starts setting backs rules batch asked (Command change ∷ acts) = starts setting backs rules (batch_with batch asked change) (asked_with asked change) acts
-starts setting backs rules batch asked (Ask request ∷ acts) = starts setting backs rules (batch_behind batch asked) (asked_behind batch asked request) acts
-starts setting backs rules batch asked (All ∷ acts) = starts setting backs rules [] (Whole []) acts
-starts setting backs rules batch asked (Probe key ∷ acts) = starts setting backs rules batch asked acts
-starts setting backs rules batch asked (Packet key ∷ acts) = starts setting backs rules batch asked acts
-starts setting backs rules batch asked (Commit ∷ acts) =
-    starts-judged setting backs rules (settled_batch rules batch asked) acts (commit_verdict setting rules batch asked) (starts setting backs rules [] Nothing acts)
-starts setting backs rules batch asked (Trial most ∷ acts) =
-    starts-tried setting backs rules (settled_batch rules batch asked) acts (settled_verdict setting.slots setting.mode rules batch asked) (starts setting backs rules [] Nothing acts)
-starts setting backs rules batch asked (Crash after ∷ acts) =
-    starts-judged setting backs rules (settled_batch rules batch asked) acts (settled_verdict setting.slots setting.mode rules batch asked) (starts setting backs rules [] Nothing acts)
-
 pub first-set : (setting : Setting) (backs : List Bool) (rules : List Rule) (batch : List Change) (asked : Requested) (acts : List Act) → slice_get (sets_through setting backs rules batch asked acts) 0 ≡ Some (Stands rules)
-first-set setting backs rules batch asked acts = ap (λ sets. slice_get sets 0) (starts setting backs rules batch asked acts).1
+first-set setting backs rules batch asked acts = refl
 
 -- the sets of some first acts are the first sets
 abbrev pub Continues : List Led → List Led → Type 0
@@ -94,7 +55,7 @@ more-judged setting backs rules batch acts later (OutOfBits field needed free) m
 more-judged setting backs rules batch acts later (OutOfSlots needed free) more = more backs rules [] Nothing
 
 more-back : (setting : Setting) (backs : List Bool) (rules : List Rule) (batch : List Change) (acts later : List Act) (back : Bool) → ContinuesWith setting acts later
-    → Continues (sets_tried setting backs rules batch acts back) (sets_tried setting backs rules batch (acts ++ later) back)
+    → Continues (Stands rules ∷ led_by (tried_as setting backs rules batch acts back)) (Stands rules ∷ led_by (tried_as setting backs rules batch (acts ++ later) back))
 more-back setting backs rules batch acts later true more =
     let old = more backs rules [] Nothing in (old.0, ap (λ sets. Stands rules ∷ TakenBack (set_after rules batch) ∷ sets) old.1)
 more-back setting backs rules batch acts later false more =
@@ -108,7 +69,7 @@ more-tried setting backs rules batch acts later (OutOfBits field needed free) mo
 more-tried setting backs rules batch acts later (OutOfSlots needed free) more = more backs rules [] Nothing
 
 more-sets-from : (setting : Setting) (acts later : List Act) → ContinuesWith setting acts later
-more-sets-from setting [] later backs rules batch asked = starts setting backs rules batch asked later
+more-sets-from setting [] later backs rules batch asked = (led_by (judgements setting backs rules batch asked later), refl)
 more-sets-from setting (Command change ∷ acts) later backs rules batch asked = more-sets-from setting acts later backs rules (batch_with batch asked change) (asked_with asked change)
 more-sets-from setting (Ask request ∷ acts) later backs rules batch asked = more-sets-from setting acts later backs rules (batch_behind batch asked) (asked_behind batch asked request)
 more-sets-from setting (All ∷ acts) later backs rules batch asked = more-sets-from setting acts later backs rules [] (Whole [])

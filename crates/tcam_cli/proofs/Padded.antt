@@ -35,7 +35,7 @@ one-commit : (effects : List Effect) (new : Progress) → Commits setting pendin
 one-commit effects new commits =
     let made : journal_of effects ≡ commits.made =
     ap journal_of commits.effects_are ∙ written-segment setting pending commits.made _ in
-    ap length made ∙ one-write setting.placement Cover no_bits pending.batch (used_slots setting pending.state) commits.made refl refl refl commits.placed
+    ap length made ∙ one-write setting.placement Cover no_bits pending.batch (used_slots setting pending.state) commits.made refl refl refl commits.writes.placed
 
 judged : (before : Progress) (effects : List Effect) (new : Progress) → before ≡ pending → Settles Commits setting before effects new → length (journal_of effects) ≡ 1
 judged before effects new is commits = one-commit effects new (subst (λ (p : Progress). Settles Commits setting p effects new) is commits)

@@ -75,7 +75,7 @@ module _ (setting : Setting) (old : Progress) (right : IsPartedAt setting old) w
       let commits = first-commits effects mid step in
       let written : journal_of effects ≡ commits.made = ap journal_of commits.effects_are ∙ written-segment setting (at_first old) commits.made _ in
       to-new (state_after old.state (take n (journal_of effects)))
-      (subst (λ writes. ShowsOldOrNew (state_after old.state (take n writes)) old.rules middle) (sym written) (commits.segment.hitless.on_the_way.during n))
+      (subst (λ writes. ShowsOldOrNew (state_after old.state (take n writes)) old.rules middle) (sym written) (commits.writes.segment.hitless.on_the_way.during n))
 
   pub front-shows : (front behind : List Effect) (mid : Progress) → HasEffects setting (at_first old) Commit (front ++ behind) mid
       → (n : ℕ) → ShowsOldOrNew (state_after old.state (take n (journal_of front))) old.rules (whole_set old)
@@ -132,8 +132,8 @@ module _ (setting : Setting) (old : Progress) (right : IsPartedAt setting old) w
             ap journal_of both.effects_are ∙ written-append both.front both.back
             ∙ ap₂ (λ front back. front ++ back) (ap journal_of one.effects_are ∙ written-segment setting (at_first old) one.made _)
             (ap journal_of other.effects_are ∙ written-segment setting (at_rest old (between_at one.made)) other.made _);
-        hitless = one-commit setting.slots setting.mode old.rules old.batch old.asked old.state one.made other.made right.1 one.segment.hitless
-            (subst (λ (set : List Rule). IsHitless middle set (state_after old.state one.made) other.made) law.2 other.segment.hitless);
+        hitless = one-commit setting.slots setting.mode old.rules old.batch old.asked old.state one.made other.made right.1 one.writes.segment.hitless
+            (subst (λ (set : List Rule). IsHitless middle set (state_after old.state one.made) other.made) law.2 other.writes.segment.hitless);
         at = last;
         after =
             other.after ∙ ap (λ (set : List Rule). record last { rules = set }) law.2

@@ -1,29 +1,26 @@
 -- What packets see of a run, in the words of rule sets: the acts lead from set to set, and after each device write
 -- every packet key has the answer of one of these sets or of the next one.
-use Rattle.std.specs.Prelude.{◌≡◌, ℕ, suc, ◌+◌, ◌-◌, ◌≤◌, ◌⊎◌, Bool, true, false, Option, Some, IfSome, option_map, List, [], ◌∷◌, ◌++◌, length, take, drop, slice_get}
+use Rattle.std.specs.Prelude.{◌≡◌, ℕ, suc, ◌+◌, ◌-◌, ◌≤◌, ◌⊎◌, Bool, false, Option, Some, IfSome, option_map, List, [], ◌∷◌, ◌++◌, length, take, slice_get}
 use Rattle.std.specs.List.{AllByRecursion}
 use Rattle.rule_model.specs.declared.Rule.{Rule}
 use Rattle.rule_store.specs.declared.Command.{Command as Change}
-use Rattle.rule_store.specs.Batch.{set_after}
-use Rattle.rule_store.specs.Verdict.{Accepted}
 use Rattle.tcam_device.specs.declared.Write.{Write}
 use Rattle.tcam_device.specs.State.{State, blank, Shows, state_after}
 use Rattle.tcam_device.specs.Hitless.{ShowsOldOrNew}
 use Rattle.replay.specs.declared.Act.{Act}
 use Rattle.replay.specs.declared.Act.TheVariants.{Command, Ask, All, Probe, Packet, Commit, Trial, Crash}
 use Rattle.settled_changes.specs.declared.requested.Requested.{Requested}
-use Rattle.settled_changes.specs.declared.requested.Requested.TheVariants.{Nothing, Whole}
-use Rattle.settled_changes.specs.Requested.{asked_behind, asked_with, batch_behind, batch_with, settled_batch, settled_verdict}
+use Rattle.settled_changes.specs.declared.requested.Requested.TheVariants.{Nothing}
 use Rattle.replay.specs.Fates.{IsCrash}
 use Rattle.replay.specs.Script.{Script, script_of}
-use Rattle.replay.specs.Early.{commit_verdict}
 use Rattle.replay.specs.Effects.{Setting}
 use Rattle.script_runs.specs.declared.Status.{Status}
 use Rattle.script_runs.specs.declared.Status.TheVariants.{Done, Refused, Script as ScriptFault, ReadFault, WriteFault, DeviceFault, Memory, Usage}
 use Rattle.trace_verify.specs.Verify.{IsHitlessText}
 use Rattle.script_runs.specs.Script.{acts_of}
 use Rattle.script_runs.specs.Places.{IsFirstPast}
-use Rattle.tcam_cli.specs.Headline.{Job, NoJob, Tells, Reads, Makes, Verifies, is_back, script_so_far}
+use Rattle.tcam_cli.specs.Headline.{Job, NoJob, Tells, Reads, Makes, Verifies, script_so_far}
+use Rattle.tcam_cli.specs.Judgements.{Judgement, Declined, LedTo, LedBack, judgements}
 use Rattle.tcam_cli.specs.MadeScript.{made_script}
 use Rattle.tcam_cli.specs.Readings.{reading_by}
 
@@ -40,35 +37,17 @@ rules_in (TakenBack rules) = rules
 abbrev pub set_at : List Led → ℕ → Option (List Rule)
 set_at sets place = option_map rules_in (slice_get sets place)
 
+-- the sets that these commits lead to
+abbrev pub led_by : List Judgement → List Led
+led_by [] = []
+led_by (Declined ∷ behind) = led_by behind
+led_by (LedTo new ∷ behind) = Stands new ∷ led_by behind
+led_by (LedBack new old ∷ behind) = TakenBack new ∷ Stands old ∷ led_by behind
+
 -- The sets that acts lead through, by the rule lists and by which accepted trials are taken back: the first, one more
--- for each accepted commit, and for a trial that is taken back the new set and then the old one again. What is pending is a
--- batch, and what is asked for beside it; a commit settles it.
+-- for each accepted commit, and for a trial that is taken back the new set and then the old one again.
 abbrev pub sets_through : Setting → List Bool → List Rule → List Change → Requested → List Act → List Led
-sets_through setting backs rules batch asked [] = Stands rules ∷ []
-sets_through setting backs rules batch asked (Command change ∷ acts) = sets_through setting backs rules (batch_with batch asked change) (asked_with asked change) acts
-sets_through setting backs rules batch asked (Ask request ∷ acts) = sets_through setting backs rules (batch_behind batch asked) (asked_behind batch asked request) acts
-sets_through setting backs rules batch asked (All ∷ acts) = sets_through setting backs rules [] (Whole []) acts
-sets_through setting backs rules batch asked (Probe key ∷ acts) = sets_through setting backs rules batch asked acts
-sets_through setting backs rules batch asked (Packet key ∷ acts) = sets_through setting backs rules batch asked acts
-sets_through setting backs rules batch asked (Commit ∷ acts) =
-    elim (commit_verdict setting rules batch asked) [
-      | Accepted ↦ Stands rules ∷ sets_through setting backs (set_after rules (settled_batch rules batch asked)) [] Nothing acts
-      | _ ↦ sets_through setting backs rules [] Nothing acts
-    ]
-sets_through setting backs rules batch asked (Trial most ∷ acts) =
-    elim (settled_verdict setting.slots setting.mode rules batch asked) [
-      | Accepted ↦
-          elim (is_back backs) [
-            | true ↦ Stands rules ∷ TakenBack (set_after rules (settled_batch rules batch asked)) ∷ sets_through setting (drop 1 backs) rules [] Nothing acts
-            | false ↦ Stands rules ∷ sets_through setting (drop 1 backs) (set_after rules (settled_batch rules batch asked)) [] Nothing acts
-          ]
-      | _ ↦ sets_through setting backs rules [] Nothing acts
-    ]
-sets_through setting backs rules batch asked (Crash after ∷ acts) =
-    elim (settled_verdict setting.slots setting.mode rules batch asked) [
-      | Accepted ↦ Stands rules ∷ sets_through setting backs (set_after rules (settled_batch rules batch asked)) [] Nothing acts
-      | _ ↦ sets_through setting backs rules [] Nothing acts
-    ]
+sets_through setting backs rules batch asked acts = Stands rules ∷ led_by (judgements setting backs rules batch asked acts)
 
 -- the sets that a script leads a blank device through: the empty one first
 abbrev pub sets_of : Setting → List Bool → Script → List Led
@@ -174,7 +153,7 @@ pub record IsHitlessRun (setting : Setting) (device_slots : ℕ) (script came : 
 -- nothing; and where the check of a trace ends well, each commit of the trace is hitless, for look-ups of two events too.
 abbrev pub IsHitlessJob : Job → ℕ → Status → Option (List ℕ) → Option (List ℕ) → List Write → Type 0
 IsHitlessJob NoJob device_slots status left_old left_new journal = journal ≡ []
-IsHitlessJob (Tells text) device_slots status left_old left_new journal = journal ≡ []
+IsHitlessJob (Tells own) device_slots status left_old left_new journal = journal ≡ []
 IsHitlessJob (Reads setting) device_slots status left_old left_new journal =
     IfSome left_old (λ old. IfSome left_new (λ new.
     IsHitlessRun setting device_slots (script_of (reading_by setting) old)

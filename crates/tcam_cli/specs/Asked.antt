@@ -9,7 +9,7 @@ use Rattle.tcam_cli.specs.declared.command_line.Asked.{Asked}
 use Rattle.tcam_cli.specs.declared.command_line.Asked.TheVariants as asked
 use Rattle.option_words.specs.Options.{is_traced, number_given, placed_by}
 use Rattle.tcam_cli.specs.CommandLine.{is_json, is_named, job_at, made_at, mode_wanted, parted_by, script_setting}
-use Rattle.tcam_cli.specs.OwnTexts.{help_on, version_text}
+use Rattle.tcam_cli.specs.OwnTexts.{HelpOn, Version}
 use Rattle.tcam_cli.specs.Headline.{Job, NoJob, Tells, Reads, Makes, Verifies}
 
 -- what is asked for by a number, if there is one
@@ -52,8 +52,8 @@ asked_by (asked.Script family slots mode placement trace depth json names parts)
     Reads (script_setting family slots mode placement trace depth json names parts)
 asked_by (asked.Made slots mode placement seed rules batches) = Makes (script_setting Acl slots mode placement false 0 false false false) seed rules batches
 asked_by asked.Verify = Verifies
-asked_by (asked.Help topic) = Tells (help_on topic)
-asked_by asked.Version = Tells version_text
+asked_by (asked.Help topic) = Tells (HelpOn topic)
+asked_by asked.Version = Tells Version
 
 -- the numbers of made commands are in their ranges
 pub record AreMadeNumbers (slots seed rules batches : ℕ) : Type 0 where

@@ -19,7 +19,7 @@ use Rattle.replay.specs.Effects.{Setting}
 use Rattle.tcam_cli.specs.declared.own_texts.Topic.{Topic}
 use Rattle.tcam_cli.specs.declared.own_texts.Topic.TheVariants as about
 use Rattle.tcam_cli.specs.Headline.{Job, NoJob, Tells, Reads, Makes, Verifies}
-use Rattle.tcam_cli.specs.OwnTexts.{help_on, version_text}
+use Rattle.tcam_cli.specs.OwnTexts.{HelpOn, Version}
 
 -- a script of a family over so many slots in use, port ranges tested as the mode says, each insertion aiming as the
 -- placement says, with a trace or without, with the words of probes searched after so many further writes, with a report in
@@ -168,8 +168,8 @@ topic_in words = option_and_then topic_named (slice_get words 1)
 
 -- what words ask for that clap doesn't take, by the kind of error that it answers and whose help it would be
 abbrev pub job_of_fault : Option Topic → ErrorKind → Job
-job_of_fault topic kind.DisplayHelp = Tells (help_on topic)
-job_of_fault topic kind.DisplayVersion = Tells version_text
+job_of_fault topic kind.DisplayHelp = Tells (HelpOn topic)
+job_of_fault topic kind.DisplayVersion = Tells Version
 job_of_fault topic k = NoJob
 
 -- the same by the kinds that it may answer, and what the subcommand does where there is none

@@ -29,7 +29,7 @@ IsPromisedByGiven job device_slots status given_old given_new taken_old taken_ne
 -- script or a trace of the source's reads nothing.
 abbrev pub ReadsInTime : Job → ℕ → Status → List (List ℕ) → List (List ℕ) → List Action → List ℕ → List ℕ → Type 0
 ReadsInTime NoJob device_slots status given_old given_new events accepted_old accepted_new = given_new ≡ given_old
-ReadsInTime (Tells text) device_slots status given_old given_new events accepted_old accepted_new = given_new ≡ given_old
+ReadsInTime (Tells own) device_slots status given_old given_new events accepted_old accepted_new = given_new ≡ given_old
 ReadsInTime (Makes setting seed rules batches) device_slots status given_old given_new events accepted_old accepted_new = given_new ≡ given_old
 ReadsInTime (Reads setting) device_slots status given_old given_new events accepted_old accepted_new =
     ReadsLinesInTime (run_kind setting device_slots) status given_old given_new events accepted_old accepted_new

@@ -3,7 +3,7 @@
 -- a commit that finishes the new one, of a trial that is taken back the old one; a refused commit writes nothing; and an
 -- insertion takes at most 1 + 2 m (1 + c) writes. Writes, drains and lines come in one order: a probe's line stands a
 -- depth of writes behind its write, or before a drain or the commit's end, and a drain only where a commit gives new bits.
-use Rattle.std.specs.Prelude.{◌≡◌, ◌≢◌, ℕ, ◌-◌, true, false, Bool, Option, Some, None, option_map, IfSome, List, [], ◌∷◌, ◌++◌, length, take, drop, codes, ◌⊎◌}
+use Rattle.std.specs.Prelude.{◌≡◌, ◌≢◌, ℕ, ◌-◌, true, false, Bool, Option, Some, None, option_map, IfSome, List, [], ◌++◌, length, take, codes, ◌⊎◌}
 use Rattle.std.specs.Io.KnownBytes.{Appends}
 use Rattle.call_history.specs.Cause.{IsCounted}
 use Rattle.script_lines.specs.declared.LineFault.TheVariants as line_fault
@@ -15,25 +15,23 @@ use Rattle.script_runs.specs.Outcomes as outcomes
 use Rattle.script_runs.specs.Outcomes.{RunKind, IsPrinted, TakesFrom, status_at}
 use Rattle.rule_model.specs.declared.Rule.{Rule}
 use Rattle.rule_store.specs.declared.Command.{Command as Change}
-use Rattle.rule_store.specs.Batch.{set_after}
-use Rattle.rule_store.specs.Verdict.{Accepted}
 use Rattle.tcam_device.specs.declared.Write.{Write}
 use Rattle.tcam_device.specs.declared.Action.{Action}
 use Rattle.tcam_device.specs.declared.Action.TheVariants.{Written}
 use Rattle.tcam_device.specs.View.{DeviceView, journal}
 use Rattle.batch_order.specs.CarriedOut.{IsTried}
 use Rattle.replay.specs.declared.Act.{Act}
-use Rattle.replay.specs.declared.Act.TheVariants.{Command, Ask, All, Probe, Packet, Commit, Trial, Crash}
 use Rattle.settled_changes.specs.declared.requested.Requested.{Requested}
-use Rattle.settled_changes.specs.declared.requested.Requested.TheVariants.{Nothing, Whole}
-use Rattle.settled_changes.specs.Requested.{asked_behind, asked_with, batch_behind, batch_with, changes_in, settled_batch, settled_verdict}
+use Rattle.settled_changes.specs.declared.requested.Requested.TheVariants.{Nothing}
+use Rattle.settled_changes.specs.Requested.{changes_in}
 use Rattle.replay.specs.Script.{Script, Reading, script_kind, script_of}
 use Rattle.report_lines.specs.Text.{usage_line, fault_line}
 use Rattle.replay.specs.Text.{yes_line, no_line}
-use Rattle.replay.specs.Early.{commit_verdict}
 use Rattle.replay.specs.Effects.{Setting, Effect, Acts, Prints, events_in, printed}
 use Rattle.replay.specs.Reports.{fault_told}
 use Rattle.replay.specs.Run.{Progress, start, ending}
+use Rattle.tcam_cli.specs.OwnTexts.{OwnText, IsOwnText}
+use Rattle.tcam_cli.specs.Judgements.{any_declined, judgements}
 use Rattle.tcam_cli.specs.InTwo.{IsCutBy, StepsBy, TakesBy}
 use Rattle.trace_check.specs.Answers.{TraceAnswer, Yes, No, Bad, Unread, IsTraceAnswer}
 use Rattle.tcam_cli.specs.Readings.{reading_by}
@@ -43,7 +41,7 @@ use Rattle.tcam_cli.specs.MadeScript.{made_script}
 -- of a trace from the source
 pub data Job : Type 0 where
   NoJob : Job
-  Tells : (text : List ℕ) → Job
+  Tells : (own : OwnText) → Job
   Reads : (setting : Setting) → Job
   Makes : (setting : Setting) (seed rules batches : ℕ) → Job
   Verifies : Job
@@ -142,8 +140,8 @@ IsToldAlone text last status left_old left_new taken_old taken_new events =
 abbrev pub IsCarriedOut : Job → ℕ → Status → Option (List ℕ) → Option (List ℕ) → Option (List ℕ) → Option (List ℕ) → List Action → Type 0
 IsCarriedOut NoJob device_slots status left_old left_new taken_old taken_new events =
     IsToldAlone usage_line Usage status left_old left_new taken_old taken_new events
-IsCarriedOut (Tells text) device_slots status left_old left_new taken_old taken_new events =
-    IsToldAlone text Done status left_old left_new taken_old taken_new events
+IsCarriedOut (Tells own) device_slots status left_old left_new taken_old taken_new events =
+    (text : List ℕ) × IsOwnText own text × IsToldAlone text Done status left_old left_new taken_old taken_new events
 IsCarriedOut (Reads setting) device_slots status left_old left_new taken_old taken_new events =
     IfSome left_old (λ old. IfSome left_new (λ new.
     TakesFrom status old new
@@ -154,39 +152,9 @@ IsCarriedOut (Makes setting seed rules batches) device_slots status left_old lef
 IsCarriedOut Verifies device_slots status left_old left_new taken_old taken_new events =
     (events ≡ []) × IfSome left_old (λ old. IfSome left_new (λ new. IsChecked status old new taken_old taken_new))
 
--- whether the next trial that is accepted is taken back: each in their order, and none past the last
-abbrev pub is_back : List Bool → Bool
-is_back [] = false
-is_back (back ∷ backs) = back
-
--- whether a commit of the acts is refused, by the rule lists alone and by which accepted trials are taken back: the set
--- before the acts, the batch that is pending, and what is asked for beside it
+-- whether a commit of the acts is refused, by the rule lists alone and by which accepted trials are taken back
 abbrev pub any_refused : Setting → List Bool → List Rule → List Change → Requested → List Act → Bool
-any_refused setting backs rules batch asked [] = false
-any_refused setting backs rules batch asked (Command change ∷ acts) = any_refused setting backs rules (batch_with batch asked change) (asked_with asked change) acts
-any_refused setting backs rules batch asked (Ask request ∷ acts) = any_refused setting backs rules (batch_behind batch asked) (asked_behind batch asked request) acts
-any_refused setting backs rules batch asked (All ∷ acts) = any_refused setting backs rules [] (Whole []) acts
-any_refused setting backs rules batch asked (Probe key ∷ acts) = any_refused setting backs rules batch asked acts
-any_refused setting backs rules batch asked (Packet key ∷ acts) = any_refused setting backs rules batch asked acts
-any_refused setting backs rules batch asked (Commit ∷ acts) =
-    elim (commit_verdict setting rules batch asked) [
-      | Accepted ↦ any_refused setting backs (set_after rules (settled_batch rules batch asked)) [] Nothing acts
-      | _ ↦ true
-    ]
-any_refused setting backs rules batch asked (Trial most ∷ acts) =
-    elim (settled_verdict setting.slots setting.mode rules batch asked) [
-      | Accepted ↦
-          elim (is_back backs) [
-            | true ↦ any_refused setting (drop 1 backs) rules [] Nothing acts
-            | false ↦ any_refused setting (drop 1 backs) (set_after rules (settled_batch rules batch asked)) [] Nothing acts
-          ]
-      | _ ↦ true
-    ]
-any_refused setting backs rules batch asked (Crash after ∷ acts) =
-    elim (settled_verdict setting.slots setting.mode rules batch asked) [
-      | Accepted ↦ any_refused setting backs (set_after rules (settled_batch rules batch asked)) [] Nothing acts
-      | _ ↦ true
-    ]
+any_refused setting backs rules batch asked acts = any_declined (judgements setting backs rules batch asked acts)
 
 -- the status of a script that is carried out to its end, by the rule lists alone and by which trials are taken back
 abbrev pub decided : Setting → List Bool → Script → Status
@@ -200,7 +168,7 @@ decided setting backs script =
 -- the number of their writes; a script without trials has one status, whatever is said of them.
 abbrev pub decision : Job → List Bool → Option (List ℕ) → Option Status
 decision NoJob backs left = Some Usage
-decision (Tells text) backs left = Some Done
+decision (Tells own) backs left = Some Done
 decision (Reads setting) backs left = option_map (λ bytes. decided setting backs (script_of (reading_by setting) bytes)) left
 decision (Makes setting seed rules batches) backs left = Some (decided setting backs (made_script seed rules batches))
 decision Verifies backs left = None
@@ -208,7 +176,7 @@ decision Verifies backs left = None
 -- words and script alone decide this status, where the script is told or made; and what is told of a trace does
 abbrev pub IsDecided : Status → Job → Option (List ℕ) → Type 0
 IsDecided status NoJob left = (backs : List Bool) × IfSome (decision NoJob backs left) (λ is. is ≡ status)
-IsDecided status (Tells text) left = (backs : List Bool) × IfSome (decision (Tells text) backs left) (λ is. is ≡ status)
+IsDecided status (Tells own) left = (backs : List Bool) × IfSome (decision (Tells own) backs left) (λ is. is ≡ status)
 IsDecided status (Reads setting) left = (backs : List Bool) × IfSome (decision (Reads setting) backs left) (λ is. is ≡ status)
 IsDecided status (Makes setting seed rules batches) left =
     (backs : List Bool) × IfSome (decision (Makes setting seed rules batches) backs left) (λ is. is ≡ status)
@@ -217,7 +185,7 @@ IsDecided status Verifies left = IfSome left (λ text. (answer : TraceAnswer) ×
 -- a job that reads the source
 abbrev pub ReadsSource : Job → Type 0
 ReadsSource NoJob = ⊥
-ReadsSource (Tells text) = ⊥
+ReadsSource (Tells own) = ⊥
 ReadsSource (Reads setting) = Unit {0}
 ReadsSource (Makes setting seed rules batches) = ⊥
 ReadsSource Verifies = Unit {0}
@@ -225,7 +193,7 @@ ReadsSource Verifies = Unit {0}
 -- a job that writes the device
 abbrev pub WritesDevice : Job → Type 0
 WritesDevice NoJob = ⊥
-WritesDevice (Tells text) = ⊥
+WritesDevice (Tells own) = ⊥
 WritesDevice (Reads setting) = Unit {0}
 WritesDevice (Makes setting seed rules batches) = Unit {0}
 WritesDevice Verifies = ⊥

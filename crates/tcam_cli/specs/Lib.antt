@@ -1,5 +1,6 @@
 pub mod Readings
 pub mod InTwo
+pub mod Judgements
 pub mod Headline
 pub mod OwnTexts
 pub mod CommandLine

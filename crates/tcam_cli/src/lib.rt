@@ -22,8 +22,8 @@
 //! # Decided
 //! - **Which trials are taken back rests on the number of their writes**, which the placement fixes and no rule list
 //!   tells. So the sets that a script leads through and the status that the rule lists decide are functions of one
-//!   thing more, a list that says of each accepted trial whether it is taken back (`sets_through`, `any_refused`,
-//!   `decided`): `hitless` and `causes` say that there is such a list, and `carried_out` when each is (`Tries`). In a
+//!   thing more, a list that says of each accepted trial whether it is taken back (`judgements`, of which `sets_through`
+//!   and `any_refused` are read; `decided`): `hitless` and `causes` say that there is such a list, and `carried_out` when each is (`Tries`). In a
 //!   script without trials nothing is asked of the list.
 //! - **What packets see is stated once above the run's steps, in rule sets alone** (`AllTheWay`): the sets that a
 //!   script leads through, and after each device write the answer of one of them or of the next, in order. Each is shown
@@ -56,14 +56,14 @@
 //! - **`--help`, `-h` and `--version` print the product's own text** to the report's sink with status 0, the one answer
 //!   beside the table of statuses. Where `clap` finds another fault first, as in `tcam frob --help`, the words are no
 //!   command line. There is no subcommand `help`.
-//! - **Each subcommand's `--help` lists what it takes** (`help_on`, `Asked::Help`, `Topic`). `clap`'s error has a kind
+//! - **Each subcommand's `--help` lists what it takes** (`HelpOn`, `Asked::Help`, `Topic`). `clap`'s error has a kind
 //!   and names no subcommand, so the word behind the program's name says whose help it is (`topic_in`), which is
-//!   enough: `tcam` itself has no option that may stand before a subcommand, but those that print a text. The texts are
-//!   in the contract to the letter (`specs/OwnTexts`); the price is that these are 228 lines to be believed. `--trace`
-//!   is said to have a line for each write and each drain also in the helps of routes, of which no commit drains: one
-//!   line serves all.
+//!   enough: `tcam` itself has no option that may stand before a subcommand, but those that print a text. The contract
+//!   says whose help a text is, by the words that it begins with (`IsOwnText`), and of the version all of it; what else a
+//!   help says no clause promises, and who reads the clauses has no text to read twice. `--trace` is said to have a line
+//!   for each write and each drain also in the helps of routes, of which no commit drains: one line serves all.
 //! - **`--placement` and `--ranges` are parts of a run's setting** (`script_setting`, `Asked::Script`, `placement_in`,
-//!   `mode_in`), so that the clauses of `run` say of each commit that it is placed as the words ask (`Commits.placed`):
+//!   `mode_in`), so that the clauses of `run` say of each commit that it is placed as the words ask (`AreCommitWrites.placed`):
 //!   a body that runs the other placement breaks `given` and `carried_out`. `middle` is the default, since reports of
 //!   before stay as they are. The headline names neither, and holds for all. A script of routes has no `--ranges`,
 //!   since its rules take any port: its mode is covers. `clap` takes any word there, and the program says which ones

@@ -1,7 +1,6 @@
 //! The texts that the program prints about itself.
 
-ghost use Rattle.std.specs.Prelude.{◌≡◌};
-ghost use Rattle.tcam_cli.specs.OwnTexts.{help_on};
+ghost use Rattle.tcam_cli.specs.OwnTexts.{HelpOn, IsOwnText};
 
 /// A subcommand, whose help is asked for.
 #[derive(Clone, Copy, Debug, PartialEq, Eq)]
@@ -358,7 +357,7 @@ pub const VERSION: &str = "tcam 0.2.0\n";
 
 /// The help of a subcommand, or of the program where none is named.
 pub fn help_of(topic: Option<Topic>) -> &'static str
-    ensures { result.now ≡ help_on topic }
+    ensures { IsOwnText (HelpOn topic) result.now }
 {
     match topic {
         None => HELP,

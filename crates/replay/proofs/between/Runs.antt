@@ -9,7 +9,7 @@ use Rattle.rule_store.specs.declared.Mode.{Mode}
 use Rattle.rule_store.specs.declared.Command.{Command as Change}
 use Rattle.rule_model.specs.declared.words.Entry.{Entry}
 use Rattle.tcam_device.specs.State.{State, Shows, IsInUse, blank, state_after, on_device}
-use Rattle.tcam_device.specs.Insertion.{Insertion, IsUncrossed}
+use Rattle.tcam_device.specs.Insertion.{Insertion, insertions, IsUncrossed}
 use Rattle.commit_writes.specs.Bits.{bits_with, bits_left}
 use Rattle.batch_order.specs.declared.Placement.{Placement}
 use Rattle.commit_writes.specs.declared.Done.{Done}
@@ -19,7 +19,7 @@ use Rattle.batch_order.specs.Placing.{IsPlacedBy}
 use Rattle.report_lines.specs.declared.Family.{Family}
 use Rattle.report_lines.specs.declared.Family.TheVariants.{Route, Acl, Route6, Acl6}
 use Rattle.replay.specs.Effects.{Setting, Effect, Prints}
-use Rattle.replay.specs.Run.{Progress, Commits, Returns, OfFamily, actions_back, actions_for, carried, used_slots, after_segment}
+use Rattle.replay.specs.Run.{Progress, AreCommitWrites, Commits, Returns, OfFamily, actions_back, actions_for, carried, used_slots, after_segment}
 use Rattle.replay.specs.Reports.{done_line}
 use Rattle.replay.specs.Text.{aborted_line}
 use Rattle.replay.specs.Crashing.{after_loss}
@@ -252,16 +252,26 @@ module _ (run : Running) (counts : Done) (is : IsRun run) (holds : Holds (record
       ap (λ after. at after (run.writes + counts.writes)) (after-state slots)
       ∙ ap (λ count. at (state_after (on_device slots run.manager.state) holds.made) (run.writes + count)) (holds.numbers slots within).writes
 
-  pub of-family : (slots : ℕ) → run.manager.slots ≤ slots → OfFamily run.family (on_device slots run.manager.state) holds.made
+  pub of-family : (slots : ℕ) → run.manager.slots ≤ slots → OfFamily run.family (insertions (on_device slots run.manager.state) holds.made)
   of-family slots within = go run.family refl
     where
-      go : (family : Family) → run.family ≡ family → OfFamily family (on_device slots run.manager.state) holds.made
-      go Route route =
-          let least = holds.uncrossed slots within V4 (is.routes V4 route) (is.changes V4 route) in
-          (wider _ least, least)
+      go : (family : Family) → run.family ≡ family → OfFamily family (insertions (on_device slots run.manager.state) holds.made)
+      go Route route = holds.uncrossed slots within V4 (is.routes V4 route) (is.changes V4 route)
       go Acl other = tt
       go Route6 route = holds.uncrossed slots within V6 (is.routes V6 route) (is.changes V6 route)
       go Acl6 other = tt
+
+  -- the writes of the commit
+  abbrev pub writes-of : (slots : ℕ) → run.manager.slots ≤ slots → AreCommitWrites (setting_of run) (progress_of slots run) holds.made
+  writes-of slots within = record {
+    segment = holds.segment slots within;
+    placed = subst (λ (state : State). IsPlacedBy run.manager.placement run.manager.mode run.manager.bits run.manager.rules run.pending state holds.made)
+        (sym (in-use (setting_of run) slots run.manager.state is.size)) holds.placed;
+    of_family = of-family slots within;
+    in_use = holds.in_use;
+    counts = counts;
+    numbers = holds.numbers slots within;
+  }
 
   -- the commit, as what it writes and prints
   abbrev pub commits-with : (slots : ℕ) → run.manager.slots ≤ slots → (effects : List Effect)
@@ -269,13 +279,7 @@ module _ (run : Running) (counts : Done) (is : IsRun run) (holds : Holds (record
       → Commits (setting_of run) (progress_of slots run) effects (progress_of slots (run_after run holds.made counts))
   commits-with slots within effects same = record {
     made = holds.made;
-    counts = counts;
-    segment = holds.segment slots within;
-    placed = subst (λ (state : State). IsPlacedBy run.manager.placement run.manager.mode run.manager.bits run.manager.rules run.pending state holds.made)
-        (sym (in-use (setting_of run) slots run.manager.state is.size)) holds.placed;
-    of_family = of-family slots within;
-    in_use = holds.in_use;
-    numbers = holds.numbers slots within;
+    writes = writes-of slots within;
     effects_are = same;
     after = after-progress slots within;
   }
@@ -286,12 +290,7 @@ module _ (run : Running) (counts : Done) (is : IsRun run) (holds : Holds (record
       → Returns (setting_of run) (progress_of slots run) limit effects (progress_of slots (run_returned run both))
   returns-with slots within limit both more ends number effects same = record {
     made = holds.made;
-    more = more;
-    segment = holds.segment slots within;
-    placed = subst (λ (state : State). IsPlacedBy run.manager.placement run.manager.mode run.manager.bits run.manager.rules run.pending state holds.made)
-        (sym (in-use (setting_of run) slots run.manager.state is.size)) holds.placed;
-    of_family = of-family slots within;
-    in_use = holds.in_use;
+    past = record { writes = writes-of slots within; more = more };
     effects_are = same;
     after =
         let at : State → ℕ → Progress = λ state writes. record (progress_of slots (run_returned run both)) { state = on_device slots state; writes = writes } in

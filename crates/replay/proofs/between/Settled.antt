@@ -12,7 +12,7 @@ use Rattle.settled_changes.specs.Requested.{IsAsked, TakesAsked, settled_batch, 
 use Rattle.settled_changes.proofs.AskedFor.{verdict-taken}
 use Rattle.replay.specs.Effects.{Setting, Effect}
 use Rattle.replay.specs.Fates.{commit_act}
-use Rattle.replay.specs.Run.{Commits, Crashes, CrashesIn, HasEffects, IsCutBeforeCrash, IsCutStep, Judged, MayWant, Progress, Settles, StopsAtCrash, TakesMemory, Tries, actions_before, carried_so_far, pending_verdict, settled_at}
+use Rattle.replay.specs.Run.{Commits, Crashes, GoesPast, HasEffects, IsCutBeforeCrash, IsCutStep, Judged, MayWant, Progress, Settles, StopsAtCrash, TakesMemory, Tries, actions_before, carried_so_far, pending_verdict, settled_at}
 
 -- ---- strict commands are their own batch
 
@@ -33,14 +33,14 @@ judged-plain Does setting old effects new none judged =
 
 -- and cut before its crash as it is
 pub cut-plain : (setting : Setting) (before : Progress) (after : ℕ) (effects : List Effect) (due : Effect) → before.asked ≡ Nothing
-    → verdict setting.slots setting.mode before.rules before.batch ≡ Accepted → (made : List Write) → CrashesIn setting before after made → (back : List Effect)
+    → verdict setting.slots setting.mode before.rules before.batch ≡ Accepted → (made : List Write) → GoesPast setting before after made → (back : List Effect)
     → carried_so_far setting before (actions_before setting before after made) ≡ effects ++ due ∷ back → IsCutBeforeCrash setting before (acts.Crash after) effects due
 cut-plain setting before after effects due none accepted made crash back parts = record {
   after = after;
   act_is = refl;
   accepted = verdict-plain setting before none ∙ accepted;
   made = made;
-  crash = subst (λ (at : Progress). CrashesIn setting at after made) (sym (settled-plain before none)) crash;
+  crash = subst (λ (at : Progress). GoesPast setting at after made) (sym (settled-plain before none)) crash;
   back = back;
   parts = subst (λ (at : Progress). carried_so_far setting at (actions_before setting at after made) ≡ effects ++ due ∷ back) (sym (settled-plain before none)) parts;
 }

@@ -51,6 +51,6 @@ written-restarts setting old new after effects restarts =
 pub parts_are : CrashedPartsAreOldOrNew
 parts_are setting old new after effects restarts =
     subst (IsOldOrNew old.rules (set_after old.rules old.batch) old.state) (sym (written-restarts setting old new after effects restarts)) (record {
-      during = joined old.rules (set_after old.rules old.batch) old.state restarts.made restarts.rest after restarts.crash.more restarts.crash.segment.hitless.on_the_way.during restarts.goes_on.during;
+      during = joined old.rules (set_after old.rules old.batch) old.state restarts.made restarts.rest after restarts.crash.more restarts.crash.writes.segment.hitless.on_the_way.during restarts.goes_on.during;
       after = subst (λ (now : State). Shows now (set_after old.rules old.batch)) (sym (state_after-append old.state (take after restarts.made) restarts.rest)) restarts.goes_on.after;
     })

@@ -12,7 +12,7 @@ use Rattle.rule_store.specs.declared.Command.{Command as Change}
 use Rattle.tcam_device.specs.declared.Write.{Write}
 use Rattle.tcam_device.specs.declared.Action.{Action}
 use Rattle.tcam_device.specs.Flight.{writes_in}
-use Rattle.tcam_device.specs.Insertion.{IsUncrossed}
+use Rattle.tcam_device.specs.Insertion.{insertions, IsUncrossed}
 use Rattle.tcam_device.specs.State.{State, IsInUse, state_after, on_device}
 use Rattle.tcam_device.proofs.Spans.{state_after-append}
 use Rattle.tcam_device.proofs.Wider.{slots-after, state_after-on_device}
@@ -21,11 +21,12 @@ use Rattle.commit_writes.specs.declared.Done.{Done}
 use Rattle.commit_writes.specs.Actions.{commit_actions, have_bits, with_drain}
 use Rattle.commit_writes.specs.Bits.{FieldBits, bits_left, bits_with, new_bits}
 use Rattle.commit_writes.specs.Routes.{IsRoute, prefix_lengths}
+use Rattle.commit_writes.specs.Shape.{insertions_behind}
 use Rattle.commit_writes.proofs.WritesIn.{writes_of_commit, writes_in-append}
 use Rattle.readback.specs.declared.Parts.{Parts}
 use Rattle.readback.specs.Tasks.{Task}
 use Rattle.readback.specs.Stage.{IsCommitAt, IsTwinSlot}
-use Rattle.readback.specs.Going.{GoesOn, needs_drain, rest_insertions}
+use Rattle.readback.specs.Going.{GoesOn, needs_drain}
 use Rattle.batch_order.specs.declared.Placement.{Placement}
 use Rattle.batch_order.specs.Placing.{IsPlacedBy, IsRestPlacedBy}
 use Rattle.batch_order.specs.Managed.{HeldCommit, Holds, Managed, OnlyChangesRoutes}
@@ -34,13 +35,13 @@ use Rattle.report_lines.specs.declared.Family.{Family}
 use Rattle.report_lines.specs.declared.Family.TheVariants.{Route, Acl, Route6, Acl6}
 use Rattle.replay.specs.declared.fate.Fate.TheVariants as fates
 use Rattle.replay.specs.Effects.{Setting, Effect, Prints}
-use Rattle.replay.specs.Run.{Progress, Crashes, Judged, HasEffects, OfFamily, RestOfFamily, Restarts, actions_over, after_segment, carried, carried_so_far}
+use Rattle.replay.specs.Run.{Progress, Crashes, Judged, HasEffects, OfFamily, Restarts, actions_over, after_segment, carried, carried_so_far}
 use Rattle.replay.specs.Text.{restarted_line}
 use Rattle.replay.specs.Fates.{commit_act}
 use Rattle.replay.specs.Running.{Running, IsOnward, IsRun, first_actions, actions_left, progress_of, routes_of, setting_of}
 use Rattle.replay.proofs.course.Course.{Course, Ending, cuts-by_step}
 use Rattle.replay.proofs.course.Returning.{writes-up_to}
-use Rattle.replay.proofs.between.Runs.{in-use, wider}
+use Rattle.replay.proofs.between.Runs.{in-use}
 use Rattle.replay.proofs.between.Settled.{judged-plain}
 
 -- the plan that another manager goes on with, by the rules and the bits of the first
@@ -66,7 +67,7 @@ pub record GoesBy (slots : ℕ) (mode : Mode) (placement : Placement) (rules : L
   pub few : length made ≤ 2 ^ 39
   pub goes_on : GoesOn slots mode bits rules batch state left twin made
   pub placed : IsRestPlacedBy placement device_slots (proposal mode bits rules batch) (in_use slots state) done left twin made
-  pub uncrossed : (version : IpVersion) → AllByRecursion (IsRoute version) rules → OnlyChangesRoutes version batch → IsUncrossed (prefix_lengths version) (rest_insertions goes_on.shape)
+  pub uncrossed : (version : IpVersion) → AllByRecursion (IsRoute version) rules → OnlyChangesRoutes version batch → IsUncrossed (prefix_lengths version) (insertions_behind goes_on.shape)
 
 pub goes-by : (slots : ℕ) (mode : Mode) (placement : Placement) (begun : Managed) (parts : Parts) (batch : List Change) (device_slots : ℕ) (state : State) (restarted : Managed) → ArePartsOf begun parts
     → Resumes slots mode placement parts batch device_slots state restarted → GoesBy slots mode placement begun.rules begun.bits batch device_slots state restarted
@@ -213,7 +214,7 @@ module _ (slots : ℕ) (run : Running) (onward : IsOnward slots run) (is : IsRun
   pub routes-first : (version : IpVersion) → run.family ≡ routes_of version → AllByRecursion (IsRoute version) begun.rules
   routes-first version route = subst (AllByRecursion (IsRoute version)) rules-now (is.routes version route)
 
-  of-rest : (family : Family) → run.family ≡ family → RestOfFamily family (rest_insertions goes.goes_on.shape)
+  of-rest : (family : Family) → run.family ≡ family → OfFamily family (insertions_behind goes.goes_on.shape)
   of-rest Route route = goes.uncrossed V4 (routes-first V4 route) (is.changes V4 route)
   of-rest Acl other = tt
   of-rest Route6 route = goes.uncrossed V6 (routes-first V6 route) (is.changes V6 route)
@@ -252,13 +253,15 @@ module _ (slots : ℕ) (run : Running) (onward : IsOnward slots run) (is : IsRun
   restarts = record {
     made = holds.made;
     crash = record {
-      segment = holds.segment slots begun-inside;
-      placed = subst (λ (state : State). IsPlacedBy begun.placement begun.mode begun.bits begun.rules run.pending state holds.made)
-          (sym (in-use (setting_of (record run { manager = begun })) slots begun.state begun-size)) holds.placed;
-      of_family = of-first run.family refl;
-      in_use = holds.in_use;
-      counts = onward.holds.0;
-      numbers = holds.numbers slots begun-inside;
+      writes = record {
+        segment = holds.segment slots begun-inside;
+        placed = subst (λ (state : State). IsPlacedBy begun.placement begun.mode begun.bits begun.rules run.pending state holds.made)
+            (sym (in-use (setting_of (record run { manager = begun })) slots begun.state begun-size)) holds.placed;
+        of_family = of-first run.family refl;
+        in_use = holds.in_use;
+        counts = onward.holds.0;
+        numbers = holds.numbers slots begun-inside;
+      };
       more = onward.more;
     };
     done = goes.done;
@@ -275,10 +278,8 @@ module _ (slots : ℕ) (run : Running) (onward : IsOnward slots run) (is : IsRun
     new_is = progress-ended;
   }
     where
-      of-first : (family : Family) → run.family ≡ family → OfFamily family (on_device slots begun.state) holds.made
-      of-first Route route =
-          let least = holds.uncrossed slots begun-inside V4 (routes-first V4 route) (is.changes V4 route) in
-          (wider _ least, least)
+      of-first : (family : Family) → run.family ≡ family → OfFamily family (insertions (on_device slots begun.state) holds.made)
+      of-first Route route = holds.uncrossed slots begun-inside V4 (routes-first V4 route) (is.changes V4 route)
       of-first Acl other = tt
       of-first Route6 route = holds.uncrossed slots begun-inside V6 (routes-first V6 route) (is.changes V6 route)
       of-first Acl6 other = tt

@@ -16,10 +16,9 @@ use Rattle.replay.specs.declared.RunFault.{RunFault}
 use Rattle.replay.specs.declared.RunFault.TheVariants as fault
 use Rattle.replay.specs.declared.fate.Fate.TheVariants as fates
 use Rattle.replay.specs.declared.watch.Count.{Count}
-use Rattle.replay.specs.Effects.{Setting, Effect, Prints}
+use Rattle.replay.specs.Effects.{Setting, Effect}
 use Rattle.rule_store.specs.Verdict.{Accepted, verdict}
-use Rattle.replay.specs.Run.{Progress, Commits, CrashesIn, StopsAtCrash, actions_before, actions_for, carried, carried_so_far}
-use Rattle.replay.specs.Reports.{done_line}
+use Rattle.replay.specs.Run.{Progress, GoesPast, StopsAtCrash, actions_before, carried_so_far}
 use Rattle.replay.specs.Carried.{IsAt}
 use Rattle.replay.specs.Fates.{IsUpTo, commit_act}
 use Rattle.replay.specs.Pausing.{MakesUpTo}
@@ -36,7 +35,7 @@ use Rattle.replay.proofs.between.Halfway.{begun-is, few-left, halfway-more, held
 use Rattle.replay.proofs.making.Making.{then-left}
 use Rattle.replay.proofs.course.Resuming.{began, left-in_use, so_far, state-now, within_begun}
 use Rattle.replay.proofs.course.Returning.{writes-up_to}
-use Rattle.replay.proofs.between.Runs.{commits-with, run_after}
+use Rattle.replay.proofs.between.Runs.{writes-of}
 use Rattle.replay.proofs.between.Settled.{cut-plain}
 
 -- what comes before a crash does so in two parts
@@ -100,22 +99,11 @@ module _ (slots after : ℕ) (base : Running) (half : IsHalfway (crashing after 
   pub first-made : half.some.made ++ left_first ≡ first_actions run half.begun half.holds.1.made after
   first-made = sym (first-before (subst (λ n. after < n) (sym whole-writes) more)) ∙ ap (up_to_writes after) whole-commit
 
-  abbrev whole_commit_effects : List Effect
-  whole_commit_effects = carried begun_setting first (actions_for begun_setting first half.holds.1.made) ++ Prints (done_line run.json run.early (run.commits + 1) half.holds.0) ∷ []
-
-  pub crashes-in : CrashesIn (setting_of run) first after half.holds.1.made
-  crashes-in = subst (λ setting. CrashesIn setting first after half.holds.1.made) (sym (setting-begun run half)) (record {
-    segment = commits.segment;
-    placed = commits.placed;
-    of_family = commits.of_family;
-    in_use = commits.in_use;
-    counts = commits.counts;
-    numbers = commits.numbers;
+  pub goes-past : GoesPast (setting_of run) first after half.holds.1.made
+  goes-past = subst (λ setting. GoesPast setting first after half.holds.1.made) (sym (setting-begun run half)) (record {
+    writes = writes-of (run_begun run half) half.holds.0 (begun-is run half is) half.holds.1 slots (within_begun slots run half is inside);
     more = more;
   })
-    where
-      commits : Commits begun_setting first whole_commit_effects (progress_of slots (run_after (run_begun run half) half.holds.1.made half.holds.0))
-      commits = commits-with (run_begun run half) half.holds.0 (begun-is run half is) half.holds.1 slots (within_begun slots run half is inside) whole_commit_effects refl
 
   pub accepted-run : verdict (setting_of run).slots (setting_of run).mode half.begun.rules run.pending ≡ Accepted
   accepted-run = subst (λ setting. verdict setting.slots setting.mode half.begun.rules run.pending ≡ Accepted) (sym (setting-begun run half)) half.accepted
@@ -132,7 +120,7 @@ module _ (slots after : ℕ) (base : Running) (half : IsHalfway (crashing after 
     size = is.size;
     in_use = subst (AllByRecursion (IsInUse run.manager.slots)) (sym (writes-up_to (after - length (writes_in half.some.made)) half.some.left))
         (all_take (IsInUse run.manager.slots) (after - length (writes_in half.some.made)) (writes_in half.some.left) (left-in_use slots run half is inside));
-    cuts = λ some back due parts. inr (cut-plain (setting_of run) first after _ due half.plain accepted-run half.holds.1.made crashes-in back
+    cuts = λ some back due parts. inr (cut-plain (setting_of run) first after _ due half.plain accepted-run half.holds.1.made goes-past back
         (ap (carried_so_far (setting_of run) first) (sym whole-first) ∙ parts));
   }
 
@@ -140,7 +128,7 @@ module _ (slots after : ℕ) (base : Running) (half : IsHalfway (crashing after 
   pub stops-now : left_first ≡ [] → StopsAtCrash (setting_of run) first after (so_far slots run half is inside)
   stops-now none = record {
     made = half.holds.1.made;
-    crash = crashes-in;
+    crash = goes-past;
     effects_are = ap (carried_so_far (setting_of run) first) (sym (append-nil half.some.made) ∙ ap (λ actions. half.some.made ++ actions) (sym none) ∙ whole-first);
   }
 

@@ -2,9 +2,9 @@ use Rattle.std.proofs.Common.{Bool, true, false, ◌≡◌, ◌≤◌, refl, ap,
 use Rattle.script_runs.specs.declared.Status.TheVariants.{Done, Usage}
 use Rattle.replay.specs.Running.{Running, progress_of, setting_of}
 use Rattle.report_lines.specs.Text.{usage_line}
-use Rattle.tcam_cli.specs.OwnTexts.{version_text}
+use Rattle.tcam_cli.specs.OwnTexts.{Version, version_text}
 use Rattle.report_lines.specs.declared.Family.TheVariants.{Acl}
-use Rattle.tcam_cli.specs.Headline.{Makes, Reads, Tells, Verifies}
+use Rattle.tcam_cli.specs.Headline.{Makes, Reads, Verifies}
 use Rattle.tcam_cli.proofs.Begun.{begins}
 use Rattle.replay.proofs.between.Leaving.{uncounted, leaves-line}
 use Rattle.tcam_device.specs.Flight.{writes_in}
@@ -74,14 +74,15 @@ returns-in-Err-clause-in_time g c = nothing-read _ _ _ _ _ _ (λ e. cc)
 
 pub returns-in-Ok-Help-clause-carried_out : goal.returns-in-Ok-Help-clause-carried_out
 returns-in-Ok-Help-clause-carried_out g c =
-    let is = (rw c.in-Ok-Help.field-0-is at c.in-Ok-Help.ensures.asked) ∙ ap Tells (sym c.help_of.ensures) in
-    rw is (told-alone c.help_of.result.now Done _ _ _ _ _ c.requires.blank (c.tell.ensures.closes.closes true))
+    let is = rw c.in-Ok-Help.field-0-is at c.in-Ok-Help.ensures.asked in
+    let text = c.help_of.result.now in
+    rw is (text, c.help_of.ensures, told-alone text Done _ _ _ _ _ c.requires.blank (c.tell.ensures.closes.closes true))
 
 pub returns-in-Ok-Version-clause-carried_out : goal.returns-in-Ok-Version-clause-carried_out
 unfolding version_text
 returns-in-Ok-Version-clause-carried_out g c =
     let is = rw c.in-Ok-Version.field-0-is at c.in-Ok-Version.ensures.asked in
-    rw is (told-alone version_text Done _ _ _ _ _ c.requires.blank (c.tell-in-Ok-Version.ensures.closes.closes true))
+    rw is (version_text, refl, told-alone version_text Done _ _ _ _ _ c.requires.blank (c.tell-in-Ok-Version.ensures.closes.closes true))
 
 pub returns-in-Err-Usage-clause-carried_out : goal.returns-in-Err-Usage-clause-carried_out
 returns-in-Err-Usage-clause-carried_out g c =
@@ -97,15 +98,15 @@ returns-in-Err-Memory-clause-hitless g c =
 
 pub returns-in-Ok-Help-clause-given : goal.returns-in-Ok-Help-clause-given
 returns-in-Ok-Help-clause-given g c = λ which.
-    let is = (rw c.in-Ok-Help.field-0-is at c.in-Ok-Help.ensures.asked) ∙ ap Tells (sym c.help_of.ensures) in
+    let is = rw c.in-Ok-Help.field-0-is at c.in-Ok-Help.ensures.asked in
     let text = c.help_of.result.now in
-    rw is (promised-none _ _ _ _ _ _ _ (λ left. told-alone text Done _ left _ _ _ c.requires.blank (c.tell.ensures.closes.closes which)) (λ left. may-tell text _ _ _ _ left (c.tell.ensures.closes.closes which)))
+    rw is (promised-none _ _ _ _ _ _ _ (λ left. (text, c.help_of.ensures, told-alone text Done _ left _ _ _ c.requires.blank (c.tell.ensures.closes.closes which))) (λ left. may-tell _ _ _ _ _ left (c.tell.ensures.closes.closes which)))
 
 pub returns-in-Ok-Version-clause-given : goal.returns-in-Ok-Version-clause-given
 unfolding version_text
 returns-in-Ok-Version-clause-given g c = λ which.
     let is = rw c.in-Ok-Version.field-0-is at c.in-Ok-Version.ensures.asked in
-    rw is (promised-none _ _ _ _ _ _ _ (λ left. told-alone version_text Done _ left _ _ _ c.requires.blank (c.tell-in-Ok-Version.ensures.closes.closes which)) (λ left. may-tell version_text _ _ _ _ left (c.tell-in-Ok-Version.ensures.closes.closes which)))
+    rw is (promised-none _ _ _ _ _ _ _ (λ left. (version_text, refl, told-alone version_text Done _ left _ _ _ c.requires.blank (c.tell-in-Ok-Version.ensures.closes.closes which))) (λ left. may-tell Version _ _ _ _ left (c.tell-in-Ok-Version.ensures.closes.closes which)))
 
 pub returns-in-Err-Memory-clause-given : goal.returns-in-Err-Memory-clause-given
 returns-in-Err-Memory-clause-given g c = λ which. promised-none _ _ _ _ _ _ _ (λ left. memory-carried _ _ left _ _ c.requires.blank) (λ left. tt)
