@@ -15,10 +15,10 @@ use Rattle.script_lines.specs.Reader.{HeldBytes, IsOpenLine, lines_held, Hands, 
 use Rattle.script_lines.proofs.Turns.{may-all}
 use Rattle.script_runs.specs.declared.Status.{Status}
 use Rattle.script_runs.specs.declared.Status.TheVariants as status
-use Rattle.import_lines.specs.Import.{Telling, left_out_count, script_from, stop_line}
+use Rattle.import_lines.specs.Import.{Telling, LineTold, SaidBy, UnsaidBy, end_line, end_script, left_out_count, script_from, stop_line}
 use Rattle.import_lines.specs.Imported.{EndsBy}
 use Rattle.import_lines.specs.Rounds.{Standing, MayGoOn, IsAnew, RoundBegins, RoundsBy}
-use Rattle.import_lines.specs.Writes.{LastBy, TellsLine}
+use Rattle.import_lines.specs.Writes.{ClosesAs, LastBy, TellsLine}
 use Rattle.import_lines.proofs.ScriptParts.{open-anew, line-comes, line-goes, line-ends, line-other, written_of, passes-appends, last-ends, at-end, at-fault, fault-of-line}
 
 -- ---- a reader that may go on
@@ -120,15 +120,28 @@ module _ (Known : Type 0) (telling : Telling Known) (old new : HeldBytes) (numbe
   none-left over.Ended held text left now lines is may_go by may s = s.last is
   none-left (over.Stopped stopped) held text left now lines is may_go by may s = absurd may_go
 
-  pub round-end : (held : HeldBytes) (result : Status) → HandsByGiven old pieces (Ok None) held
-      → LastBy (left_out_count at.left_out ++ telling.closing at.known) status.Done result o n → RoundOf Known telling old at number pieces (Err result) new at_new o n
-  round-end held result by last =
-      let l = last-ends Known telling at (left_out_count at.left_out ++ telling.closing at.known) status.Done result o n last in
+  -- the script ends there with these bytes, by this status
+  ends-there : (held : HeldBytes) (bytes : List ℕ) (last result : Status) → HandsByGiven old pieces (Ok None) held → last ≢ status.ReadFault
+      → (script_from telling at.leave_out at.known at.left_out [] EndOfInput).text ≡ bytes → EndsBy Known telling at.leave_out at.known at.left_out [] EndOfInput last bytes
+      → LastBy bytes last result o n → RoundOf Known telling old at number pieces (Err result) new at_new o n
+  ends-there held bytes last result by other text_is ends_so last_by =
+      let l = last-ends Known telling at bytes last result o n last_by in
       ends-by (Ok None) held result l.written by l.appends (λ text left now lines may s.
       let is : lines ≡ ends_at EndOfInput = at-end text old left number lines s (none-left old.over held text left now lines refl anew.goes_on by may s) in
-      l.right lines (ap (λ (l : ScriptLines). (script_from telling at.leave_out at.known at.left_out l.lines l.last).text) is)
-      (subst (λ (l : ScriptLines). EndsBy Known telling at.leave_out at.known at.left_out l.lines l.last status.Done (left_out_count at.left_out ++ telling.closing at.known)) (sym is) (refl, refl, refl)))
-      (λ same. absurd (err-other result (l.other (λ e. cc)) same))
+      l.right lines (ap (λ (l : ScriptLines). (script_from telling at.leave_out at.known at.left_out l.lines l.last).text) is ∙ text_is)
+      (subst (λ (l : ScriptLines). EndsBy Known telling at.leave_out at.known at.left_out l.lines l.last last bytes) (sym is) ends_so))
+      (λ same. absurd (err-other result (l.other other) same))
+
+  ends-told : (held : HeldBytes) (result : Status) → HandsByGiven old pieces (Ok None) held → (told : LineTold) → telling.closing at.known ≡ told → ClosesAs at.left_out told result o n
+      → RoundOf Known telling old at number pieces (Err result) new at_new o n
+  ends-told held result by (SaidBy bytes) same last =
+      ends-there held (left_out_count at.left_out ++ bytes) status.Done result by (λ e. cc) (ap (λ t. (end_script at.left_out t).text) same) (refl, refl, (bytes, same, refl)) last
+  ends-told held result by (UnsaidBy why) same last =
+      ends-there held (end_line why) status.Script result by (λ e. cc) (ap (λ t. (end_script at.left_out t).text) same) (why, same, refl) last
+
+  pub round-end : (held : HeldBytes) (result : Status) → HandsByGiven old pieces (Ok None) held → ClosesAs at.left_out (telling.closing at.known) result o n
+      → RoundOf Known telling old at number pieces (Err result) new at_new o n
+  round-end held result by closes = ends-told held result by (telling.closing at.known) refl closes
 
   -- ---- or tells a line
   pub round-line : (line : Line) (held : HeldBytes) (result : Result (Unit {0}) Status) → new ≡ record held { before = 0; number = 1 }

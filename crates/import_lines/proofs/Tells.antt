@@ -4,9 +4,9 @@ use Rattle.std.proofs.lemmas.Result.{on_ok_weaker}
 use Rattle.call_history.specs.Cause.{IsCounted}
 use Rattle.script_runs.specs.declared.Status.{Status}
 use Rattle.script_runs.specs.declared.Status.TheVariants as status
-use Rattle.import_lines.specs.Import.{Telling, SaidBy, UnsaidBy, left_out_line, stop_line, left_out_count}
+use Rattle.import_lines.specs.Import.{Telling, LineTold, SaidBy, UnsaidBy, left_out_line, stop_line, left_out_count}
 use Rattle.import_lines.specs.Rounds.{Standing}
-use Rattle.import_lines.specs.Writes.{ClosesBy, LastBy, PassesBy, NamesBy, PassesAs, HasText, EndsAs, TellsLine}
+use Rattle.import_lines.specs.Writes.{ClosesAs, ClosesBy, LastBy, PassesBy, NamesBy, PassesAs, HasText, EndsAs, TellsLine}
 
 -- a text that is put there in parts
 pub puts-then : (before mid after part rest : List ℕ) → mid ≡ before ++ part → after ≡ mid ++ rest → after ≡ before ++ (part ++ rest)
@@ -27,10 +27,11 @@ closes-same text same last result o n is by = inl (subst (λ t. ClosesBy t last 
 pub passes-same : (text same : List ℕ) (result : Result (Unit {0}) Status) (o n : Option (List ℕ)) → text ≡ same → PassesBy result text o n → PassesBy result same o n
 passes-same text same result o n is by = subst (λ t. PassesBy result t o n) is by
 
--- what stands behind all lines
-pub last-at : (Known : Type 0) → (closing : Known → List ℕ) (view at : Standing Known) (last result : Status) (o n : Option (List ℕ)) → view ≡ at → LastBy (left_out_count view.left_out ++ closing view.known) last result o n
-    → LastBy (left_out_count at.left_out ++ closing at.known) last result o n
-last-at Known closing view at last result o n is by = subst (λ (a : Standing Known). LastBy (left_out_count a.left_out ++ closing a.known) last result o n) is by
+-- what stands behind all lines, by the fields of an import
+pub closes-at : (Known : Type 0) → (closing : Known → LineTold) (view at : Standing Known) (told : LineTold) (result : Status) (o n : Option (List ℕ)) → view ≡ at → closing view.known ≡ told → ClosesAs view.left_out told result o n
+    → ClosesAs at.left_out (closing at.known) result o n
+closes-at Known closing view at told result o n is same by =
+    subst (λ (a : Standing Known). ClosesAs a.left_out (closing a.known) result o n) is (subst (λ t. ClosesAs view.left_out t result o n) (sym same) by)
 
 -- a line that isn't said
 pub names-pass : (leave_out : Bool) (number : ℕ) (why : List ℕ) (result : Result (Unit {0}) Status) (o n : Option (List ℕ)) → leave_out ≡ true → PassesBy result (left_out_line number why) o n → NamesBy leave_out number why result o n

@@ -16,19 +16,20 @@ abbrev pub IsTold : Told → List ℕ → LineTold → Type 0
 IsTold told.Said bytes line = line ≡ SaidBy bytes
 IsTold told.Unsaid bytes line = line ≡ UnsaidBy bytes
 
--- how a format tells lines by what it knows, and what it knows behind a line that is said
+-- how a format tells lines by what it knows, what it knows behind a line that is said, and what it tells behind all lines
 pub record Telling (Known : Type 0) : Type 0 where
   pub told : Known → List ℕ → LineTold
   pub behind : Known → List ℕ → Known
-  pub closing : Known → List ℕ
+  pub closing : Known → LineTold
 
-abbrev pub telling : {Known : Type 0} → (Known → List ℕ → LineTold) → (Known → List ℕ → Known) → (Known → List ℕ) → Telling Known
+abbrev pub telling : {Known : Type 0} → (Known → List ℕ → LineTold) → (Known → List ℕ → Known) → (Known → LineTold) → Telling Known
 telling told behind closing = record { told = told; behind = behind; closing = closing }
 
--- how a script ends: behind all lines, so many of them left out, or at a line
+-- how a script ends: behind all lines, so many of them left out, at a line, or for want of what should stand behind all lines
 pub data ImportEnd : Type 0 where
   Whole : (left_out : ℕ) → ImportEnd
   StoppedAt : (line : ℕ) → ImportEnd
+  StoppedAtEnd : ImportEnd
 
 -- the bytes of a script, and how it ends
 pub record ImportedScript : Type 0 where
@@ -38,6 +39,10 @@ pub record ImportedScript : Type 0 where
 -- the last line of a script that ends at a line
 abbrev pub stop_line : ℕ → List ℕ → List ℕ
 stop_line number why = codes "line " ++ (decimal number ++ (codes " " ++ (why ++ codes "\n")))
+
+-- and of one whose input doesn't say, with all its lines, what would stand behind them
+abbrev pub end_line : List ℕ → List ℕ
+end_line why = codes "end of input: " ++ (why ++ codes "\n")
 
 -- the comment on a line that is left out
 abbrev pub left_out_line : ℕ → List ℕ → List ℕ
@@ -55,9 +60,14 @@ onto_script bytes script = record script { text = bytes ++ script.text }
 abbrev pub stops_at : ℕ → List ℕ → ImportedScript
 stops_at number why = record { text = stop_line number why; last = StoppedAt number }
 
--- a script that ends behind all lines, or at a byte that is at fault
+-- a script that ends behind all lines, by what the format tells then
+abbrev pub end_script : ℕ → LineTold → ImportedScript
+end_script left_out (SaidBy bytes) = record { text = left_out_count left_out ++ bytes; last = Whole left_out }
+end_script left_out (UnsaidBy why) = record { text = end_line why; last = StoppedAtEnd }
+
+-- it ends there, or at a byte that is at fault
 abbrev pub script_end : {Known : Type 0} → Telling Known → Known → ℕ → LinesEnd → ImportedScript
-script_end telling known left_out EndOfInput = record { text = left_out_count left_out ++ telling.closing known; last = Whole left_out }
+script_end telling known left_out EndOfInput = end_script left_out (telling.closing known)
 script_end telling known left_out (Faulty (fault.BadByte line)) = stops_at line (codes "bad byte")
 script_end telling known left_out (Faulty (fault.TooLong line)) = stops_at line (codes "line too long")
 script_end telling known left_out (Faulty (fault.ScriptTooLong line)) = stops_at line (codes "line too long")

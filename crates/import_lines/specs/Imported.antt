@@ -6,24 +6,25 @@ use Rattle.script_lines.specs.Given.{MayGive}
 use Rattle.script_lines.specs.Lines.{NumberedLine, LinesEnd, EndOfInput, Faulty, text_lines}
 use Rattle.script_runs.specs.declared.Status.{Status}
 use Rattle.script_runs.specs.declared.Status.TheVariants as status
-use Rattle.import_lines.specs.Import.{Telling, UnsaidBy, LineFate, HaveFates, bytes_of_fate, known_after, left_out_count, left_out_of, script_end, script_from, stop_line}
+use Rattle.import_lines.specs.Import.{Telling, SaidBy, UnsaidBy, LineFate, HaveFates, bytes_of_fate, end_line, known_after, left_out_count, left_out_of, script_end, script_from, stop_line}
 
 -- these bytes are the front of the others, or all of them
 abbrev pub IsFront : List ℕ → List ℕ → Type 0
 IsFront front bytes = (rest : List ℕ) × (bytes ≡ front ++ rest)
 
--- the last line of a script names the line that isn't said, or the one that has a byte at fault
+-- the last line of a script names the line that isn't said, the one that has a byte at fault, or what is wanting behind all lines
 abbrev pub StopsBy : (Known : Type 0) → Telling Known → Bool → Known → ℕ → List NumberedLine → LinesEnd → List ℕ → Type 0
 StopsBy Known telling leave_out known left_out (line ∷ lines) last tail =
     (leave_out ≡ false) × ((why : List ℕ) × (telling.told known line.text ≡ UnsaidBy why) × (tail ≡ stop_line line.number why))
 StopsBy Known telling leave_out known left_out [] (Faulty fault) tail = tail ≡ (script_end telling known left_out (Faulty fault)).text
-StopsBy Known telling leave_out known left_out [] EndOfInput tail = ⊥
+StopsBy Known telling leave_out known left_out [] EndOfInput tail =
+    (why : List ℕ) × (telling.closing known ≡ UnsaidBy why) × (tail ≡ end_line why)
 
--- What was written behind the lines that have a fate, by how the import ended: all that stands behind the last line, the line at
--- which it stopped, nothing, or where the sink failed the front of what was to come.
+-- What was written behind the lines that have a fate, by how the import ended: all that stands behind the last line, what the line
+-- names at which it stopped, nothing, or where the sink failed the front of what was to come.
 abbrev pub EndsBy : (Known : Type 0) → Telling Known → Bool → Known → ℕ → List NumberedLine → LinesEnd → Status → List ℕ → Type 0
 EndsBy Known telling leave_out known left_out rest last status.Done tail =
-    (rest ≡ []) × (last ≡ EndOfInput) × (tail ≡ left_out_count left_out ++ telling.closing known)
+    (rest ≡ []) × (last ≡ EndOfInput) × ((bytes : List ℕ) × (telling.closing known ≡ SaidBy bytes) × (tail ≡ left_out_count left_out ++ bytes))
 EndsBy Known telling leave_out known left_out rest last status.Script tail = StopsBy Known telling leave_out known left_out rest last tail
 EndsBy Known telling leave_out known left_out rest last status.ReadFault tail = tail ≡ []
 EndsBy Known telling leave_out known left_out rest last status.Memory tail = tail ≡ []

@@ -1,9 +1,9 @@
 -- What a line and the end of a script come to on a sink, by the bytes that it holds, or accepted, before and after.
-use Rattle.std.specs.Prelude.{◌≡◌, ◌⊎◌, ℕ, ◌+◌, ◌≤◌, Bool, true, false, Option, Result, Ok, Err, List, [], length, take}
+use Rattle.std.specs.Prelude.{◌≡◌, ◌⊎◌, ℕ, ◌+◌, ◌≤◌, Bool, true, false, Option, Result, Ok, Err, List, [], ◌++◌, length, take}
 use Rattle.std.specs.Io.KnownBytes.{Appends}
 use Rattle.script_runs.specs.declared.Status.{Status}
 use Rattle.script_runs.specs.declared.Status.TheVariants as status
-use Rattle.import_lines.specs.Import.{Telling, LineTold, SaidBy, UnsaidBy, left_out_line, stop_line}
+use Rattle.import_lines.specs.Import.{Telling, LineTold, SaidBy, UnsaidBy, end_line, left_out_count, left_out_line, stop_line}
 use Rattle.import_lines.specs.Rounds.{Standing}
 
 -- a part of a text was written, perhaps none or all of it
@@ -18,6 +18,11 @@ ClosesBy text last result old new =
 -- or memory was wanting before anything was written
 abbrev pub LastBy : List ℕ → Status → Status → Option (List ℕ) → Option (List ℕ) → Type 0
 LastBy text last result old new = ClosesBy text last result old new ⊎ ((result ≡ status.Memory) × Appends old new [])
+
+-- What stands behind all lines: bytes of the script, behind the count of what is left out, or why it isn't said.
+abbrev pub ClosesAs : ℕ → LineTold → Status → Option (List ℕ) → Option (List ℕ) → Type 0
+ClosesAs left_out (SaidBy bytes) result old new = LastBy (left_out_count left_out ++ bytes) status.Done result old new
+ClosesAs left_out (UnsaidBy why) result old new = LastBy (end_line why) status.Script result old new
 
 -- A text behind which the import goes on was written whole, or the import is at its end.
 abbrev pub PassesBy : Result (Unit {0}) Status → List ℕ → Option (List ℕ) → Option (List ℕ) → Type 0

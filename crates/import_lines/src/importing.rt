@@ -6,16 +6,16 @@ ghost use Rattle.call_history.specs.Cause.{IsCounted};
 ghost use Rattle.script_lines.specs.Given.{GivesPieces, counted};
 ghost use Rattle.script_lines.specs.Lines.{numbered};
 ghost use Rattle.script_lines.specs.declared.Over.TheVariants.{Going};
-ghost use Rattle.import_lines.specs.Import.{left_out_count, left_out_line, stop_line, telling};
+ghost use Rattle.import_lines.specs.Import.{end_line, left_out_count, left_out_line, stop_line, telling};
 ghost use Rattle.import_lines.specs.Imported.{ImportsBy};
 ghost use Rattle.import_lines.specs.Rounds.{IsAnew, RoundsBy};
-ghost use Rattle.import_lines.specs.Writes.{ClosesBy, LastBy, NamesBy, PassesBy, TellsLine};
+ghost use Rattle.import_lines.specs.Writes.{ClosesAs, ClosesBy, LastBy, NamesBy, PassesBy, TellsLine};
 
-use crate::lines::{put_left_out, put_left_out_count, put_stop};
+use crate::lines::{put_end, put_end_line, put_left_out, put_stop};
 use crate::{LineFormat, Told};
 use script_lines::{Line, LineFault, Lines, Sink, Source, write_all};
 use script_runs::Status;
-use std::alloc::{AllocError, Global};
+use std::alloc::Global;
 use std::marker::Model;
 
 /// Where an import stands between two lines. Contracts see what the format knows, whether lines may be left out, and how
@@ -43,7 +43,8 @@ impl<F: LineFormat> Model for Importing<F> {
 ///
 /// `Done` comes where the input was read to its end, and then the script has what the format writes behind all lines. At a
 /// line that isn't said, that is too long or has a byte that no line has, the status is `Script`: the last line of the
-/// script names it, and what the format writes behind all lines isn't there. `ReadFault` comes exactly where the source
+/// script names it, and what the format writes behind all lines isn't there. The same status comes at the end of an input
+/// of which the format says that something is wanting there. `ReadFault` comes exactly where the source
 /// failed, `WriteFault` exactly where the sink did, and `Memory` for want of memory alone: the lines that were told by then
 /// stand in the script, where the sink failed perhaps with a part of the next one or all of it. Where the source failed these
 /// are all lines that came whole, with their line feed.
@@ -151,17 +152,18 @@ impl<F: LineFormat> Importing<F> {
         }
     }
 
-    /// Ends the script behind all lines.
+    /// Ends the script behind all lines, or says what is wanting there.
     fn close<K: Sink>(&mut self, alloc: Global, sink: &mut K) -> Status
-        ensures closes { (which : Bool) → LastBy (left_out_count self.old.left_out ++ F.closing self.old.known) Status.Done result (counted which (K.taken sink.old) (K.accepted sink.old)) (counted which (K.taken sink.new) (K.accepted sink.new)) }
+        ensures closes { (which : Bool) → ClosesAs self.old.left_out (F.closing self.old.known) result (counted which (K.taken sink.old) (K.accepted sink.old)) (counted which (K.taken sink.new) (K.accepted sink.new)) }
         ensures kind { result ≢ Status.ReadFault }
         ensures written { IsCounted (result ≡ Status.WriteFault) (K.faults sink.old) (K.faults sink.new) }
     {
-        match put_end(alloc, &mut self.written, &self.format, self.left_out) {
-            Ok(()) => {}
-            Err(_) => return Status::Memory,
+        self.told.clear();
+        match self.format.close(alloc, &mut self.told) {
+            Ok(Told::Said) => end(&mut self.written, self.left_out, self.told.as_slice(), sink),
+            Ok(Told::Unsaid) => end_short(&mut self.written, self.told.as_slice(), sink),
+            Err(_) => Status::Memory,
         }
-        write_last(sink, self.written.as_slice(), Status::Done)
     }
 }
 
@@ -231,19 +233,30 @@ fn stop<K: Sink>(room: &mut Vec<u8>, number: u64, why: &[u8], sink: &mut K) -> S
     }
 }
 
-/// Puts what stands behind all lines into room.
-fn put_end<F: LineFormat>(
-    alloc: Global,
-    room: &mut Vec<u8>,
-    format: &F,
-    left_out: u64,
-) -> Result<(), AllocError>
-    ensures { OnOk result (room.new.items ≡ left_out_count left_out ++ F.closing format.now) }
+/// Ends the script with what stands behind all lines.
+fn end<K: Sink>(room: &mut Vec<u8>, left_out: u64, bytes: &[u8], sink: &mut K) -> Status
+    ensures ends { (which : Bool) → LastBy (left_out_count left_out ++ bytes.now) Status.Done result (counted which (K.taken sink.old) (K.accepted sink.old)) (counted which (K.taken sink.new) (K.accepted sink.new)) }
+    ensures kind { result ≢ Status.ReadFault }
+    ensures written { IsCounted (result ≡ Status.WriteFault) (K.faults sink.old) (K.faults sink.new) }
 {
     room.clear();
-    put_left_out_count(room, left_out)?;
-    format.close(alloc, room)?;
-    Ok(())
+    match put_end(room, left_out, bytes) {
+        Ok(()) => write_last(sink, room.as_slice(), Status::Done),
+        Err(_) => Status::Memory,
+    }
+}
+
+/// Ends the script behind all lines without what would stand there, for this reason.
+fn end_short<K: Sink>(room: &mut Vec<u8>, why: &[u8], sink: &mut K) -> Status
+    ensures ends { (which : Bool) → LastBy (end_line why.now) Status.Script result (counted which (K.taken sink.old) (K.accepted sink.old)) (counted which (K.taken sink.new) (K.accepted sink.new)) }
+    ensures kind { result ≢ Status.ReadFault }
+    ensures written { IsCounted (result ≡ Status.WriteFault) (K.faults sink.old) (K.faults sink.new) }
+{
+    room.clear();
+    match put_end_line(room, why) {
+        Ok(()) => write_last(sink, room.as_slice(), Status::Script),
+        Err(_) => Status::Memory,
+    }
 }
 
 /// Writes the last lines of a script, or another text behind which nothing comes, and answers the status that follows.

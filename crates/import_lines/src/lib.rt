@@ -20,10 +20,13 @@
 //!   end isn't known.
 //! - **A line is one write of the sink**, and what it comes to is made before the write. So want of memory never leaves half
 //!   a line.
+//! - **What should stand behind all lines may be wanting**, where an input is cut off or has nothing of what was asked for: then
+//!   the last line is `end of input: no entries`, no command either, and the status that of a line that isn't said. Nobody can
+//!   leave it out.
 //! - **A format keeps what it knows where a line isn't said**: what is left out has no part in what comes behind it.
 #![tactic(auto)]
 
-ghost use Rattle.std.specs.Prelude.{◌≡◌, ◌++◌, ◌≤◌, ℕ, List, [], length, IfOk, OnOk};
+ghost use Rattle.std.specs.Prelude.{◌≡◌, ◌≤◌, ℕ, List, [], length, IfOk};
 ghost use Rattle.import_lines.specs.Import.{LineTold, IsTold};
 
 mod importing;
@@ -52,8 +55,9 @@ pub trait LineFormat: Drop {
     /// What is known behind a line. It matters only where that line is said.
     ghost behind: { Self → List ℕ → Self };
 
-    /// What stands behind all lines of a script.
-    ghost closing: { Self → List ℕ };
+    /// What stands behind all lines of a script, or why the input isn't said with all of them: an input that is cut off
+    /// between two lines, or that has nothing of what was asked for.
+    ghost closing: { Self → LineTold };
 
     /// Puts what this line comes to into room that is empty: whole lines of a script, or the reason of one line. What is
     /// known grows only where the line is said. It fails for want of memory alone, and what is known then means nothing.
@@ -64,7 +68,9 @@ pub trait LineFormat: Drop {
         ensures said { IfOk result (λ answer. answer ≡ Told.Said → self.new ≡ behind self.old text.now) }
         ensures unsaid { IfOk result (λ answer. answer ≡ Told.Unsaid → self.new ≡ self.old) };
 
-    /// Puts what stands behind all lines there too. It fails for want of memory alone.
-    fn close(&self, alloc: Global, into: &mut Vec<u8>) -> Result<(), AllocError>
-        ensures { OnOk result (into.new.items ≡ into.old.items ++ closing self.now) };
+    /// Puts what stands behind all lines into room that is empty: whole lines of a script, or the reason of one line. It
+    /// fails for want of memory alone.
+    fn close(&self, alloc: Global, into: &mut Vec<u8>) -> Result<Told, AllocError>
+        requires { into.old.items ≡ [] }
+        ensures told { IfOk result (λ answer. IsTold answer into.new.items (closing self.now)) };
 }

@@ -1,7 +1,7 @@
 //! The lines that an import writes of its own: of what is left out, and of the line at which a script ends.
 
 ghost use Rattle.std.specs.Prelude.{◌≡◌, ◌++◌, OnOk, decimal};
-ghost use Rattle.import_lines.specs.Import.{left_out_count, left_out_line, stop_line};
+ghost use Rattle.import_lines.specs.Import.{end_line, left_out_count, left_out_line, stop_line};
 
 use itoa::Buffer;
 use std::alloc::AllocError;
@@ -32,6 +32,25 @@ pub(crate) fn put_stop(into: &mut Vec<u8>, number: u64, why: &[u8]) -> Result<()
     into.extend_from_slice(b" ")?;
     into.extend_from_slice(why)?;
     into.extend_from_slice(b"\n")?;
+    Ok(())
+}
+
+/// Puts the last line of a script there whose input doesn't say, with all its lines, what would stand behind them.
+pub(crate) fn put_end_line(into: &mut Vec<u8>, why: &[u8]) -> Result<(), AllocError>
+    ensures { OnOk result (into.new.items ≡ into.old.items ++ end_line why.now) }
+{
+    put_bytes(into, b"end of input: ")?;
+    put_bytes(into, why)?;
+    put_bytes(into, b"\n")?;
+    Ok(())
+}
+
+/// Puts there what stands behind all lines, behind the count of those that are left out.
+pub(crate) fn put_end(into: &mut Vec<u8>, left_out: u64, bytes: &[u8]) -> Result<(), AllocError>
+    ensures { OnOk result (into.new.items ≡ into.old.items ++ (left_out_count left_out ++ bytes.now)) }
+{
+    put_left_out_count(into, left_out)?;
+    into.extend_from_slice(bytes)?;
     Ok(())
 }
 

@@ -132,5 +132,5 @@ abbrev pub monitor_after : Known → List ℕ → Known
 monitor_after known text = after_words known (gap_words text)
 
 -- behind all lines stands nothing: each event is a commit
-abbrev pub monitor_closing : Known → List ℕ
-monitor_closing known = []
+abbrev pub monitor_closing : Known → LineTold
+monitor_closing known = SaidBy []

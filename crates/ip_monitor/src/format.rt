@@ -227,7 +227,7 @@ impl LineFormat for IpMonitor {
         }
     }
 
-    fn close(&self, _alloc: Global, _into: &mut Vec<u8>) -> Result<(), AllocError> {
-        Ok(())
+    fn close(&self, _alloc: Global, _into: &mut Vec<u8>) -> Result<Told, AllocError> {
+        Ok(Told::Said)
     }
 }

@@ -129,3 +129,7 @@ route_after known text = after_words known (gap_words text)
 -- what stands behind all lines: the commit of all routes
 abbrev pub route_closing : Known → List ℕ
 route_closing known = codes "commit\n"
+
+-- of lines, which always say enough for it
+abbrev pub route_closed : Known → LineTold
+route_closed known = SaidBy (route_closing known)

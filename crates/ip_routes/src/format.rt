@@ -5,7 +5,7 @@ ghost use Rattle.rule_model.specs.AddressBlock.{same_block};
 ghost use Rattle.import_lines.specs.Import.{IsTold};
 ghost use Rattle.ip_routes.specs.Words.{gap_words};
 ghost use Rattle.ip_routes.specs.Reading.{first_reading, read_words};
-ghost use Rattle.ip_routes.specs.Telling.{added, after_behind, after_of, behind_of, by_metric, known_with, no_less, route_after, route_closing, route_told, told_behind, told_of};
+ghost use Rattle.ip_routes.specs.Telling.{added, after_behind, after_of, behind_of, by_metric, known_with, no_less, route_after, route_closed, route_told, told_behind, told_of};
 
 use crate::attributes::Why;
 use crate::hops::{Hops, number_way};
@@ -206,7 +206,7 @@ impl LineFormat for IpRoutes {
 
     ghost behind = { route_after };
 
-    ghost closing = { route_closing };
+    ghost closing = { route_closed };
 
     fn take(&mut self, alloc: Global, text: &[u8], into: &mut Vec<u8>) -> Result<Told, AllocError> {
         match first_word(text) {
@@ -215,8 +215,8 @@ impl LineFormat for IpRoutes {
         }
     }
 
-    fn close(&self, _alloc: Global, into: &mut Vec<u8>) -> Result<(), AllocError> {
+    fn close(&self, _alloc: Global, into: &mut Vec<u8>) -> Result<Told, AllocError> {
         into.extend_from_slice(b"commit\n")?;
-        Ok(())
+        Ok(Told::Said)
     }
 }

@@ -7,7 +7,7 @@ use Rattle.json.specs.Json.{array, document, Items}
 use Rattle.script_lines.specs.Given.{HasEnd}
 use Rattle.script_runs.specs.declared.Status.{Status}
 use Rattle.script_runs.specs.declared.Status.TheVariants as status
-use Rattle.import_lines.specs.Import.{ImportEnd, Whole, StoppedAt, ImportedScript}
+use Rattle.import_lines.specs.Import.{ImportEnd, Whole, StoppedAt, StoppedAtEnd, ImportedScript}
 use Rattle.import_lines.specs.Writes.{ClosesBy}
 use Rattle.ip_routes.specs.Telling.{Known}
 use Rattle.json_routes.specs.Items.{items_script}
@@ -20,6 +20,7 @@ IsArrayOf text items = IsUtf8 text × (document text ≡ Some (array items))
 abbrev pub status_of : ImportEnd → Status
 status_of (Whole left_out) = status.Done
 status_of (StoppedAt number) = status.Script
+status_of StoppedAtEnd = status.Script
 
 -- the script of an array of routes, and of a text that is no array
 abbrev pub IsScriptOf : ImportedScript → List ℕ → Status → Type 0

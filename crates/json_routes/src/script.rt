@@ -70,8 +70,17 @@ impl Telling {
                 return Ok(Status::Script);
             }
         }
-        put_end(alloc, script, &self.routes, self.left_out)?;
+        self.put_end(script)?;
         Ok(Status::Done)
+    }
+
+    /// Puts what stands behind all items there.
+    fn put_end(&self, script: &mut Vec<u8>) -> Result<(), AllocError>
+        ensures { OnOk result (script.new.items ≡ script.old.items ++ (left_out_items self.now.left_out ++ route_closing self.now.known)) }
+    {
+        put_left_out_count(script, self.left_out)?;
+        script.extend_from_slice(b"commit\n")?;
+        Ok(())
     }
 
     /// Puts what an item has in the script there, and answers whether the script goes on.
@@ -150,20 +159,6 @@ fn put_left_out(into: &mut Vec<u8>, number: u64, why: &[u8]) -> Result<(), Alloc
     put_bytes(into, b": ")?;
     put_bytes(into, why)?;
     put_bytes(into, b"\n")?;
-    Ok(())
-}
-
-/// Puts what stands behind all items there.
-fn put_end(
-    alloc: Global,
-    into: &mut Vec<u8>,
-    routes: &IpRoutes,
-    left_out: u64,
-) -> Result<(), AllocError>
-    ensures { OnOk result (into.new.items ≡ into.old.items ++ (left_out_items left_out ++ route_closing routes.now)) }
-{
-    put_left_out_count(into, left_out)?;
-    routes.close(alloc, into)?;
     Ok(())
 }
 
