@@ -1,0 +1,4 @@
+pub mod Meets
+pub mod Walks
+pub mod Written
+pub mod Laws
