@@ -1,0 +1,9 @@
+pub mod Place
+pub mod Blocks
+pub mod Routes
+pub mod Changes
+pub mod Greatest
+pub mod Nodes
+pub mod Cells
+pub mod Trie
+pub mod Sought
