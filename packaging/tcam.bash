@@ -6,8 +6,9 @@ _tcam() {
     --ranges) words="cover bits" ;;
     --placement) words="middle rank ends" ;;
     --removals) words="first last" ;;
-    --slots | --depth | --commit | --commits) ;; # a number, or two
-    import) words="ip-routes ip-monitor ip-json --version --leave-out --help" ;;
+    --chain) words="INPUT FORWARD OUTPUT" ;;
+    --slots | --depth | --commit | --commits | --list) ;; # a number, or two, or a name
+    import) words="ip-routes ip-monitor ip-json cisco fpm iptables --version --leave-out --list --chain --help" ;;
     tcam | */tcam) words="route acl route6 acl6 router router6 gen verify draw explain import judge --help --version" ;;
     explain) words="route acl route6 acl6 router router6 gen verify draw import judge --help" ;;
     *)
@@ -18,7 +19,7 @@ _tcam() {
         gen) words="--slots --ranges --placement --help" ;;
         verify) words="--help" ;;
         draw) words="--commit --commits --occupancy --help" ;;
-        import) words="--version --leave-out --help" ;;
+        import) words="--version --leave-out --list --chain --help" ;;
         judge) words="--results --help" ;;
         esac
         ;;

@@ -13,7 +13,7 @@ use Rattle.explain_cli.specs.Promise.{EndsWith, IsAnswerOf, IsReadAs, wanted_of}
 -- the words of a script
 pub script-answers : (job : Job) (kind : Words) (wanted : Wanted) (bytes after : List ℕ) (told : Status) → kind ≡ read_as.Script wanted → IsReadAs job kind → IsRightOf wanted bytes after told → IsAnswerOf job bytes after told
 script-answers NoJob kind wanted bytes after told is reads right = let bad : read_as.Script wanted ≡ read_as.Wrong = sym is ∙ reads in absurd (cc)
-script-answers (Tells text) kind wanted bytes after told is reads right = let bad : read_as.Script wanted ≡ read_as.Other = sym is ∙ reads in absurd (cc)
+script-answers (Tells own) kind wanted bytes after told is reads right = let bad : read_as.Script wanted ≡ read_as.Other = sym is ∙ reads in absurd (cc)
 script-answers (Reads setting) kind wanted bytes after told is reads right =
     let both : read_as.Script wanted ≡ read_as.Script (wanted_of setting) = sym is ∙ reads in
     let same : wanted ≡ wanted_of setting = cc in
@@ -24,7 +24,7 @@ script-answers Verifies kind wanted bytes after told is reads right = let bad : 
 -- those of another command line
 pub other-answers : (job : Job) (kind : Words) (bytes after : List ℕ) (told : Status) → kind ≡ read_as.Other → IsReadAs job kind → EndsWith status.Done told → IsAnswerOf job bytes after told
 other-answers NoJob kind bytes after told is reads ends = let bad : read_as.Other ≡ read_as.Wrong = sym is ∙ reads in absurd (cc)
-other-answers (Tells text) kind bytes after told is reads ends = ends
+other-answers (Tells own) kind bytes after told is reads ends = ends
 other-answers (Reads setting) kind bytes after told is reads ends = let bad : read_as.Other ≡ read_as.Script (wanted_of setting) = sym is ∙ reads in absurd (cc)
 other-answers (Makes setting seed rules batches) kind bytes after told is reads ends = ends
 other-answers Verifies kind bytes after told is reads ends = ends
@@ -32,7 +32,7 @@ other-answers Verifies kind bytes after told is reads ends = ends
 -- words that are no command line
 pub wrong-answers : (job : Job) (kind : Words) (bytes after : List ℕ) (told : Status) → kind ≡ read_as.Wrong → IsReadAs job kind → EndsWith status.Script told → IsAnswerOf job bytes after told
 wrong-answers NoJob kind bytes after told is reads ends = ends
-wrong-answers (Tells text) kind bytes after told is reads ends = let bad : read_as.Wrong ≡ read_as.Other = sym is ∙ reads in absurd (cc)
+wrong-answers (Tells own) kind bytes after told is reads ends = let bad : read_as.Wrong ≡ read_as.Other = sym is ∙ reads in absurd (cc)
 wrong-answers (Reads setting) kind bytes after told is reads ends = let bad : read_as.Wrong ≡ read_as.Script (wanted_of setting) = sym is ∙ reads in absurd (cc)
 wrong-answers (Makes setting seed rules batches) kind bytes after told is reads ends = let bad : read_as.Wrong ≡ read_as.Other = sym is ∙ reads in absurd (cc)
 wrong-answers Verifies kind bytes after told is reads ends = let bad : read_as.Wrong ≡ read_as.Other = sym is ∙ reads in absurd (cc)
@@ -40,14 +40,14 @@ wrong-answers Verifies kind bytes after told is reads ends = let bad : read_as.W
 -- those of no command over one table are no answer of its reader
 pub never-help : (job : Job) (kind : Words) → kind ≡ read_as.Help → IsReadAs job kind → ⊥
 never-help NoJob kind is reads = let bad : read_as.Help ≡ read_as.Wrong = sym is ∙ reads in cc
-never-help (Tells text) kind is reads = let bad : read_as.Help ≡ read_as.Other = sym is ∙ reads in cc
+never-help (Tells own) kind is reads = let bad : read_as.Help ≡ read_as.Other = sym is ∙ reads in cc
 never-help (Reads setting) kind is reads = let bad : read_as.Help ≡ read_as.Script (wanted_of setting) = sym is ∙ reads in cc
 never-help (Makes setting seed rules batches) kind is reads = let bad : read_as.Help ≡ read_as.Other = sym is ∙ reads in cc
 never-help Verifies kind is reads = let bad : read_as.Help ≡ read_as.Other = sym is ∙ reads in cc
 
 pub never-router : (job : Job) (kind : Words) (version : IpVersion) → kind ≡ read_as.Router version → IsReadAs job kind → ⊥
 never-router NoJob kind version is reads = let bad : read_as.Router version ≡ read_as.Wrong = sym is ∙ reads in cc
-never-router (Tells text) kind version is reads = let bad : read_as.Router version ≡ read_as.Other = sym is ∙ reads in cc
+never-router (Tells own) kind version is reads = let bad : read_as.Router version ≡ read_as.Other = sym is ∙ reads in cc
 never-router (Reads setting) kind version is reads = let bad : read_as.Router version ≡ read_as.Script (wanted_of setting) = sym is ∙ reads in cc
 never-router (Makes setting seed rules batches) kind version is reads = let bad : read_as.Router version ≡ read_as.Other = sym is ∙ reads in cc
 never-router Verifies kind version is reads = let bad : read_as.Router version ≡ read_as.Other = sym is ∙ reads in cc
@@ -55,7 +55,7 @@ never-router Verifies kind version is reads = let bad : read_as.Router version �
 -- memory was wanting
 pub memory-answers : (job : Job) (bytes after : List ℕ) → IsAnswerOf job bytes after status.Memory
 memory-answers NoJob bytes after = inr (inr refl)
-memory-answers (Tells text) bytes after = inr (inr refl)
+memory-answers (Tells own) bytes after = inr (inr refl)
 memory-answers (Reads setting) bytes after = tt
 memory-answers (Makes setting seed rules batches) bytes after = inr (inr refl)
 memory-answers Verifies bytes after = inr (inr refl)

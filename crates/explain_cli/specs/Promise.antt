@@ -47,7 +47,7 @@ EndsWith last told = (told ≡ last) ⊎ ((told ≡ status.WriteFault) ⊎ (told
 -- no command line are wrong, of a script what is found in it, and of other command lines nothing is.
 abbrev pub IsAnswerOf : Job → List ℕ → List ℕ → Status → Type 0
 IsAnswerOf NoJob bytes after told = EndsWith status.Script told
-IsAnswerOf (Tells text) bytes after told = EndsWith status.Done told
+IsAnswerOf (Tells own) bytes after told = EndsWith status.Done told
 IsAnswerOf (Reads setting) bytes after told = IsRightOf (wanted_of setting) bytes after told
 IsAnswerOf (Makes setting seed rules batches) bytes after told = EndsWith status.Done told
 IsAnswerOf Verifies bytes after told = EndsWith status.Done told
@@ -55,7 +55,7 @@ IsAnswerOf Verifies bytes after told = EndsWith status.Done told
 -- what the words of a command over one table are read as, by what they ask for
 abbrev pub IsReadAs : Job → Words → Type 0
 IsReadAs NoJob kind = kind ≡ read_as.Wrong
-IsReadAs (Tells text) kind = kind ≡ read_as.Other
+IsReadAs (Tells own) kind = kind ≡ read_as.Other
 IsReadAs (Reads setting) kind = kind ≡ read_as.Script (wanted_of setting)
 IsReadAs (Makes setting seed rules batches) kind = kind ≡ read_as.Other
 IsReadAs Verifies kind = kind ≡ read_as.Other

@@ -33,12 +33,14 @@ pub(crate) enum Name {
     Occupancy,
     Version,
     LeaveOut,
+    List,
+    Chain,
     Results,
     Help,
 }
 
 /// How many options there are.
-pub(crate) const NAMES: usize = 15;
+pub(crate) const NAMES: usize = 17;
 
 /// The command that a word names.
 pub(crate) fn subcommand_named(word: &str) -> Option<Subcommand> {
@@ -71,6 +73,8 @@ pub(crate) fn option_named(word: &str) -> Option<Name> {
         "--occupancy" => Some(Name::Occupancy),
         "--version" => Some(Name::Version),
         "--leave-out" => Some(Name::LeaveOut),
+        "--list" => Some(Name::List),
+        "--chain" => Some(Name::Chain),
         "--results" => Some(Name::Results),
         "--help" | "-h" => Some(Name::Help),
         _ => None,
@@ -97,7 +101,8 @@ pub(crate) fn has_option(subcommand: Subcommand, name: Name) -> bool {
             matches!(subcommand, Subcommand::Route | Subcommand::Acl)
         }
         Name::Commit | Name::Commits | Name::Occupancy => subcommand == Subcommand::Draw,
-        Name::Version | Name::LeaveOut => subcommand == Subcommand::Import,
+        Name::Version | Name::LeaveOut | Name::List | Name::Chain => subcommand
+            == Subcommand::Import,
         Name::Results => subcommand == Subcommand::Judge,
     }
 }
@@ -113,7 +118,7 @@ pub(crate) fn options_text(subcommand: Subcommand) -> &'static str {
         Subcommand::Gen => "--slots, --ranges and --placement",
         Subcommand::Verify => "no option",
         Subcommand::Draw => "--commit, --commits and --occupancy",
-        Subcommand::Import => "--version and --leave-out",
+        Subcommand::Import => "--version, --leave-out, --list and --chain",
         Subcommand::Judge => "--results",
     }
 }
@@ -129,6 +134,8 @@ pub(crate) fn values_text(name: Name) -> Option<&'static str> {
         Name::Commit => Some("a number from 1"),
         Name::Commits => Some("two numbers from 1, as 2-5"),
         Name::Version => Some("4 or 6"),
+        Name::List => Some("the name of a list, of cisco"),
+        Name::Chain => Some("INPUT, FORWARD or OUTPUT, of iptables"),
         Name::Trace
         | Name::Names
         | Name::Json
@@ -150,6 +157,8 @@ pub(crate) fn is_value(name: Name, value: &str) -> bool {
         Name::Commit => is_commit(value),
         Name::Commits => are_commits(value),
         Name::Version => matches!(value, "4" | "6"),
+        Name::List => value.len() <= 64,
+        Name::Chain => matches!(value, "INPUT" | "FORWARD" | "OUTPUT"),
         Name::Trace
         | Name::Names
         | Name::Json
@@ -196,6 +205,8 @@ pub(crate) fn place_of(name: Name) -> usize
         Name::Names => 12,
         Name::Removals => 13,
         Name::Results => 14,
+        Name::List => 15,
+        Name::Chain => 16,
     }
 }
 

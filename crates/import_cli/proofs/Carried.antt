@@ -1,6 +1,7 @@
 -- What a command line comes to, by what its calls answer.
-use Rattle.std.proofs.Common.{◌≡◌, ◌≢◌, ◌⊎◌, Bool, ℕ, inl, inr, Option, List, [], refl, sym, ◌∙◌, subst, arith}
-use Rattle.std.specs.Prelude.{codes}
+use Rattle.std.proofs.Common.{◌≡◌, ◌≢◌, ◌⊎◌, ◌==◌, true, false, length, Bool, ℕ, inl, inr, Option, Some, None, List, [], ◌∷◌, refl, sym, ap, ◌∙◌, subst, arith}
+use Rattle.std.proofs.lemmas.Bool.{eqb-true}
+use Rattle.std.specs.Prelude.{◌&&◌, codes, not}
 use Rattle.std.proofs.KnownBytes.{Appends-nil}
 use Rattle.call_history.specs.Cause.{IsCounted}
 use Rattle.rule_model.specs.declared.IpVersion.{IpVersion}
@@ -13,20 +14,25 @@ use Rattle.import_lines.specs.Writes.{ClosesBy}
 use Rattle.ip_routes.specs.Telling as routes
 use Rattle.ip_monitor.specs.Telling as events
 use Rattle.json_routes.specs.Texts.{JsonBy, Untold}
+use Rattle.cisco_lists.specs.Lines as lists
+use Rattle.fpm_frames.specs.Imported as frames
+use Rattle.fpm_routes.specs.Telling as messages
+use Rattle.iptables.specs.Telling as chains
+use Rattle.iptables.specs.declared.lines.Hook.{Hook}
 use Rattle.import_cli.specs.declared.asked.Asked.{Asked}
 use Rattle.import_cli.specs.declared.asked.Asked.TheVariants as asked
 use Rattle.import_cli.specs.declared.asked.Format.{Format}
-use Rattle.import_cli.specs.declared.asked.Format.TheVariants.{IpRoutes, IpMonitor, IpJson}
+use Rattle.import_cli.specs.declared.asked.Format.TheVariants.{IpRoutes, IpMonitor, IpJson, Cisco, Fpm, Iptables}
 use Rattle.import_cli.specs.CommandLine.{ImportJob, NoJob, Tells, Imports, asked_by}
 use Rattle.import_cli.specs.OwnTexts.{import_help}
-use Rattle.import_cli.specs.Jobs.{no_events, no_routes, CarriesOut}
+use Rattle.import_cli.specs.Jobs.{no_events, no_lines, no_messages, no_routes, CarriesOut}
 
 -- a format is imported
 pub carries-routes : (format : Format) (version : IpVersion) (leave_out : Bool) (known : routes.Known) (pieces : List (List ℕ)) (answer : Status) (o n : Option (List ℕ)) → format ≡ IpRoutes → known ≡ no_routes version
-    → ImportsBy (telling routes.route_told routes.route_after routes.route_closing) leave_out known pieces answer o n → CarriesOut (Imports format version leave_out) pieces answer o n
+    → ImportsBy (telling routes.route_told routes.route_after routes.route_closed) leave_out known pieces answer o n → CarriesOut (Imports format version leave_out) pieces answer o n
 carries-routes format version leave_out known pieces answer o n named is by =
     subst (λ f. CarriesOut (Imports f version leave_out) pieces answer o n) (sym named)
-    (subst (λ k. ImportsBy (telling routes.route_told routes.route_after routes.route_closing) leave_out k pieces answer o n) is by)
+    (subst (λ k. ImportsBy (telling routes.route_told routes.route_after routes.route_closed) leave_out k pieces answer o n) is by)
 
 pub carries-events : (format : Format) (version : IpVersion) (leave_out : Bool) (known : events.Known) (pieces : List (List ℕ)) (answer : Status) (o n : Option (List ℕ)) → format ≡ IpMonitor → known ≡ no_events version
     → ImportsBy (telling events.monitor_told events.monitor_after events.monitor_closing) leave_out known pieces answer o n → CarriesOut (Imports format version leave_out) pieces answer o n
@@ -44,6 +50,41 @@ told-unread result last faults (inr is) other =
 pub carries-json : (format : Format) (version : IpVersion) (leave_out : Bool) (pieces : List (List ℕ)) (answer : Status) (o n : Option (List ℕ)) → format ≡ IpJson
     → JsonBy leave_out (no_routes version) pieces answer o n → CarriesOut (Imports format version leave_out) pieces answer o n
 carries-json format version leave_out pieces answer o n named by = subst (λ f. CarriesOut (Imports f version leave_out) pieces answer o n) (sym named) by
+
+pub carries-list : (format : Format) (name : List ℕ) (version : IpVersion) (leave_out : Bool) (known : lists.Known) (pieces : List (List ℕ)) (answer : Status) (o n : Option (List ℕ)) → format ≡ Cisco name → known ≡ no_lines name leave_out
+    → ImportsBy (telling lists.cisco_told lists.cisco_after lists.cisco_closing) leave_out known pieces answer o n → CarriesOut (Imports format version leave_out) pieces answer o n
+carries-list format name version leave_out known pieces answer o n named is by =
+    subst (λ f. CarriesOut (Imports f version leave_out) pieces answer o n) (sym named)
+    (subst (λ k. ImportsBy (telling lists.cisco_told lists.cisco_after lists.cisco_closing) leave_out k pieces answer o n) is by)
+
+-- the list that is asked for
+pub any-list : (name bytes : List ℕ) (leave_out : Bool) (known : lists.Known) → bytes ≡ name → (length bytes == 0) ≡ true → known ≡ lists.first_known None (not leave_out) → known ≡ no_lines name leave_out
+any-list [] bytes leave_out known same none is = is
+any-list (byte ∷ name) bytes leave_out known same none is =
+    let none_now : (length (byte ∷ name) == 0) ≡ true = ap (λ (l : List ℕ). length l == 0) (sym same) ∙ none in
+    let empty : length (byte ∷ name) ≡ 0 = eqb-true (length (byte ∷ name)) 0 none_now in
+    absurd (omega (arith, empty))
+
+pub this-list : (name bytes items : List ℕ) (leave_out : Bool) (known : lists.Known) → bytes ≡ name → (length bytes == 0) ≡ false → items ≡ bytes → known ≡ lists.first_known (Some items) false → known ≡ no_lines name leave_out
+this-list [] bytes items leave_out known same some put is =
+    let some_now : (length {A = ℕ} [] == 0) ≡ false = ap (λ (l : List ℕ). length l == 0) (sym same) ∙ some in
+    absurd (cc)
+this-list (byte ∷ name) bytes items leave_out known same some put is =
+    let some_now : (length (byte ∷ name) == 0) ≡ false = ap (λ (l : List ℕ). length l == 0) (sym same) ∙ some in
+    is ∙ ap (λ n. lists.first_known (Some n) false) (put ∙ same)
+    ∙ ap (λ b. lists.first_known (Some (byte ∷ name)) (b && not leave_out)) (sym some_now)
+
+pub carries-frames : (format : Format) (version : IpVersion) (leave_out : Bool) (known : messages.Known) (pieces : List (List ℕ)) (answer : Status) (o n : Option (List ℕ)) → format ≡ Fpm → known ≡ no_messages version
+    → frames.ImportsBy (frames.telling messages.fpm_told messages.fpm_after) (frames.first_standing leave_out known) pieces answer o n → CarriesOut (Imports format version leave_out) pieces answer o n
+carries-frames format version leave_out known pieces answer o n named is by =
+    subst (λ f. CarriesOut (Imports f version leave_out) pieces answer o n) (sym named)
+    (subst (λ k. frames.ImportsBy (frames.telling messages.fpm_told messages.fpm_after) (frames.first_standing leave_out k) pieces answer o n) is by)
+
+pub carries-chains : (format : Format) (version : IpVersion) (hook : Hook) (leave_out : Bool) (known : chains.Known) (pieces : List (List ℕ)) (answer : Status) (o n : Option (List ℕ)) → format ≡ Iptables hook → known ≡ chains.nothing_known version hook
+    → ImportsBy (telling chains.line_told chains.line_after chains.save_closing) leave_out known pieces answer o n → CarriesOut (Imports format version leave_out) pieces answer o n
+carries-chains format version hook leave_out known pieces answer o n named is by =
+    subst (λ f. CarriesOut (Imports f version leave_out) pieces answer o n) (sym named)
+    (subst (λ k. ImportsBy (telling chains.line_told chains.line_after chains.save_closing) leave_out k pieces answer o n) is by)
 
 -- what an answer asks for
 pub carried-as : (a b : Asked) (pieces : List (List ℕ)) (answer : Status) (o n : Option (List ℕ)) → a ≡ b → CarriesOut (asked_by b) pieces answer o n → CarriesOut (asked_by a) pieces answer o n
@@ -77,6 +118,10 @@ none-told telling leave_out known o = record {
 pub wanting : (job : ImportJob) (o : Option (List ℕ)) → CarriesOut job [] status.Memory o o
 wanting NoJob o = (refl, inr (refl, Appends-nil o))
 wanting (Tells text) o = (refl, inr (refl, Appends-nil o))
-wanting (Imports IpRoutes version leave_out) o = none-told (telling routes.route_told routes.route_after routes.route_closing) leave_out (no_routes version) o
+wanting (Imports IpRoutes version leave_out) o = none-told (telling routes.route_told routes.route_after routes.route_closed) leave_out (no_routes version) o
 wanting (Imports IpMonitor version leave_out) o = none-told (telling events.monitor_told events.monitor_after events.monitor_closing) leave_out (no_events version) o
 wanting (Imports IpJson version leave_out) o = Untold (inr refl) (Appends-nil o)
+wanting (Imports (Cisco name) version leave_out) o = none-told (telling lists.cisco_told lists.cisco_after lists.cisco_closing) leave_out (no_lines name leave_out) o
+wanting (Imports Fpm version leave_out) o =
+    record { fates = []; part = []; tail = []; are = tt; came = refl; appends = Appends-nil o; ends = refl }
+wanting (Imports (Iptables hook) version leave_out) o = none-told (telling chains.line_told chains.line_after chains.save_closing) leave_out (chains.nothing_known version hook) o

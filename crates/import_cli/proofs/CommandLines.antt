@@ -3,13 +3,14 @@ use Rattle.std.proofs.Common.{◌≡◌, [], ◌∷◌, true, false, refl}
 use Rattle.std.specs.Prelude.{⊤, codes}
 use Rattle.clap.proofs.OnLiterals.{clap_on_literals}
 use Rattle.rule_model.specs.declared.IpVersion.TheVariants.{V4, V6}
-use Rattle.import_cli.specs.declared.asked.Format.TheVariants.{IpRoutes, IpMonitor}
-use Rattle.import_cli.specs.CommandLine.{NoJob, Tells, Imports, format_position, import_app, import_job, import_line, import_top, leave_out_flag, version_option}
+use Rattle.import_cli.specs.declared.asked.Format.TheVariants.{IpRoutes, IpMonitor, Cisco, Fpm, Iptables}
+use Rattle.iptables.specs.declared.lines.Hook.TheVariants.{Output}
+use Rattle.import_cli.specs.CommandLine.{NoJob, Tells, Imports, chain_option, format_position, import_app, import_job, import_line, import_top, leave_out_flag, list_option, version_option}
 use Rattle.import_cli.specs.OwnTexts.{import_help}
 
 -- what a proof unfolds to compute what words ask for
 unfoldable the_declaration : ⊤
-unfolding clap_on_literals import_line import_top import_app format_position version_option leave_out_flag
+unfolding clap_on_literals import_line import_top import_app format_position version_option leave_out_flag list_option chain_option
 the_declaration = tt
 
 plain : import_job (codes "tcam" ∷ codes "import" ∷ codes "ip-routes" ∷ []) ≡ Imports IpRoutes V4 false
@@ -43,3 +44,31 @@ help = refl
 another : import_job (codes "tcam" ∷ codes "route" ∷ []) ≡ NoJob
 unfolding the_declaration
 another = refl
+
+a-list : import_job (codes "tcam" ∷ codes "import" ∷ codes "cisco" ∷ codes "--list" ∷ codes "EDGE" ∷ []) ≡ Imports (Cisco (codes "EDGE")) V4 false
+unfolding the_declaration
+a-list = refl
+
+list-of-routes : import_job (codes "tcam" ∷ codes "import" ∷ codes "ip-routes" ∷ codes "--list" ∷ codes "EDGE" ∷ []) ≡ NoJob
+unfolding the_declaration
+list-of-routes = refl
+
+list-of-six : import_job (codes "tcam" ∷ codes "import" ∷ codes "cisco" ∷ codes "--version" ∷ codes "6" ∷ []) ≡ NoJob
+unfolding the_declaration
+list-of-six = refl
+
+frames-of-six : import_job (codes "tcam" ∷ codes "import" ∷ codes "fpm" ∷ codes "--version" ∷ codes "6" ∷ []) ≡ Imports Fpm V6 false
+unfolding the_declaration
+frames-of-six = refl
+
+a-chain : import_job (codes "tcam" ∷ codes "import" ∷ codes "iptables" ∷ codes "--chain" ∷ codes "OUTPUT" ∷ []) ≡ Imports (Iptables Output) V4 false
+unfolding the_declaration
+a-chain = refl
+
+chain-of-routes : import_job (codes "tcam" ∷ codes "import" ∷ codes "ip-routes" ∷ codes "--chain" ∷ codes "INPUT" ∷ []) ≡ NoJob
+unfolding the_declaration
+chain-of-routes = refl
+
+no-such-chain : import_job (codes "tcam" ∷ codes "import" ∷ codes "iptables" ∷ codes "--chain" ∷ codes "PREROUTING" ∷ []) ≡ NoJob
+unfolding the_declaration
+no-such-chain = refl

@@ -1,5 +1,5 @@
 -- The command line of importers, by the declaration that clap is given, and what it asks for.
-use Rattle.std.specs.Prelude.{ℕ, Bool, Option, Some, None, List, [], ◌∷◌, true, codes, if◌then◌else◌}
+use Rattle.std.specs.Prelude.{ℕ, Bool, ◌==◌, Option, Some, None, List, [], ◌∷◌, true, codes, length, if◌then◌else◌}
 use Rattle.std.specs.Str.{bytes_eq}
 use Rattle.clap.specs.Walk.{Row, Rule, Text}
 use Rattle.clap.specs.Simple.{App, new_app, new_rule, on_top, with_rule, with_subcommand, subcommand_of}
@@ -9,12 +9,15 @@ use Rattle.clap.specs.declared.builder.action.ArgAction.TheVariants.{Set, SetTru
 use Rattle.clap.specs.declared.error.kind.ErrorKind.{ErrorKind}
 use Rattle.clap.specs.declared.error.kind.ErrorKind.TheVariants as kind
 use Rattle.rule_model.specs.declared.IpVersion.{IpVersion}
+use Rattle.iptables.specs.declared.lines.Hook.{Hook}
+use Rattle.iptables.specs.declared.lines.Hook.TheVariants.{Input, Forward, Output}
 use Rattle.rule_model.specs.declared.IpVersion.TheVariants.{V4, V6}
 use Rattle.option_words.specs.Options.{has_text, text_of}
 use Rattle.import_cli.specs.declared.asked.Asked.{Asked}
 use Rattle.import_cli.specs.declared.asked.Asked.TheVariants as asked
 use Rattle.import_cli.specs.declared.asked.Format.{Format}
-use Rattle.import_cli.specs.declared.asked.Format.TheVariants.{IpRoutes, IpMonitor, IpJson}
+use Rattle.import_cli.specs.declared.asked.Format.TheVariants.{IpRoutes, IpMonitor, IpJson, Cisco, Fpm, Iptables}
+use Rattle.import_cli.specs.ListName.{name_in}
 use Rattle.import_cli.specs.OwnTexts.{import_help}
 
 -- What words ask for: nothing, a text of the product, or an import of a format and a version of IP, lines left out or not.
@@ -35,9 +38,19 @@ version_option = record (new_rule (codes "version")) { long = Some (codes "versi
 unfoldable pub leave_out_flag : Rule
 leave_out_flag = record (new_rule (codes "leave-out")) { long = Some (codes "leave-out"); action = Some SetTrue }
 
+-- --list, a word
+unfoldable pub list_option : Rule
+list_option = record (new_rule (codes "list")) { long = Some (codes "list"); action = Some Set }
+
+-- --chain, a word
+unfoldable pub chain_option : Rule
+chain_option = record (new_rule (codes "chain")) { long = Some (codes "chain"); action = Some Set }
+
 -- a subcommand for imports
 unfoldable pub import_app : App
-import_app = with_rule (with_rule (with_rule (new_app (codes "import")) format_position) version_option) leave_out_flag
+import_app =
+    with_rule (with_rule (with_rule (with_rule (with_rule (new_app (codes "import")) format_position) version_option) leave_out_flag) list_option)
+    chain_option
 
 -- tcam with a required subcommand; help is asked for by its flag alone
 unfoldable pub import_top : App
@@ -53,7 +66,57 @@ format_in name =
     if bytes_eq name (codes "ip-routes") then Some IpRoutes
     else if bytes_eq name (codes "ip-monitor") then Some IpMonitor
     else if bytes_eq name (codes "ip-json") then Some IpJson
+    else if bytes_eq name (codes "cisco") then Some (Cisco [])
+    else if bytes_eq name (codes "fpm") then Some Fpm
+    else if bytes_eq name (codes "iptables") then Some (Iptables Input)
     else None
+
+-- a format, and the list of this name, where one is asked for: no other format has lists
+abbrev pub with_name : Option (List ℕ) → Option Format
+with_name None = None
+with_name (Some name) = Some (Cisco name)
+
+abbrev pub with_list : Format → Text → Option Format
+with_list (Cisco name) list = with_name (name_in list)
+with_list IpRoutes list = None
+with_list IpMonitor list = None
+with_list IpJson list = None
+with_list Fpm list = None
+with_list (Iptables hook) list = None
+
+abbrev pub list_at : Format → Text → Option Format
+list_at format list = if length list == 0 then Some format else with_list format list
+
+abbrev pub listed_at : Option Format → Text → Option Format
+listed_at None list = None
+listed_at (Some format) list = list_at format list
+
+-- a format, and the chain of this name, where one is asked for: no other format has chains
+abbrev pub hook_in : Text → Option Hook
+hook_in name =
+    if bytes_eq name (codes "INPUT") then Some Input
+    else if bytes_eq name (codes "FORWARD") then Some Forward
+    else if bytes_eq name (codes "OUTPUT") then Some Output
+    else None
+
+abbrev pub of_hook : Option Hook → Option Format
+of_hook (Some hook) = Some (Iptables hook)
+of_hook None = None
+
+abbrev pub with_chain : Format → Text → Option Format
+with_chain (Iptables hook) chain = of_hook (hook_in chain)
+with_chain IpRoutes chain = None
+with_chain IpMonitor chain = None
+with_chain IpJson chain = None
+with_chain (Cisco name) chain = None
+with_chain Fpm chain = None
+
+abbrev pub chain_at : Format → Text → Option Format
+chain_at format chain = if length chain == 0 then Some format else with_chain format chain
+
+abbrev pub chained_at : Option Format → Text → Option Format
+chained_at None chain = None
+chained_at (Some format) chain = chain_at format chain
 
 abbrev pub version_in : Text → Option IpVersion
 version_in digit =
@@ -61,16 +124,27 @@ version_in digit =
     else if bytes_eq digit (codes "6") then Some V6
     else None
 
--- an import, where the words name a format and a version
+-- an import of a format and a version: lists of IPv6 aren't taken
+abbrev pub import_of : Format → IpVersion → Bool → ImportJob
+import_of (Cisco name) V4 leave_out = Imports (Cisco name) V4 leave_out
+import_of (Cisco name) V6 leave_out = NoJob
+import_of IpRoutes version leave_out = Imports IpRoutes version leave_out
+import_of IpMonitor version leave_out = Imports IpMonitor version leave_out
+import_of IpJson version leave_out = Imports IpJson version leave_out
+import_of Fpm version leave_out = Imports Fpm version leave_out
+import_of (Iptables hook) version leave_out = Imports (Iptables hook) version leave_out
+
+-- where the words name a format and a version
 abbrev pub imports_at : Option Format → Option IpVersion → Bool → ImportJob
 imports_at None version leave_out = NoJob
 imports_at (Some format) None leave_out = NoJob
-imports_at (Some format) (Some version) leave_out = Imports format version leave_out
+imports_at (Some format) (Some version) leave_out = import_of format version leave_out
 
 -- what its arguments ask for
 abbrev pub imports_by : List Row → ImportJob
 imports_by rows =
-    imports_at (format_in (text_of (codes "format") rows)) (version_in (text_of (codes "version") rows))
+    imports_at (chained_at (listed_at (format_in (text_of (codes "format") rows)) (text_of (codes "list") rows)) (text_of (codes "chain") rows))
+    (version_in (text_of (codes "version") rows))
     (has_text (codes "leave-out") (codes "true") rows)
 
 -- what a subcommand and its arguments do

@@ -1,5 +1,5 @@
 -- What a command line of imports comes to.
-use Rattle.std.specs.Prelude.{◌≡◌, ℕ, Option, None, List, [], codes}
+use Rattle.std.specs.Prelude.{◌≡◌, ℕ, Bool, not, ◌==◌, ◌&&◌, Option, Some, None, List, [], ◌∷◌, codes, length}
 use Rattle.rule_model.specs.declared.IpVersion.{IpVersion}
 use Rattle.script_runs.specs.declared.Status.{Status}
 use Rattle.script_runs.specs.declared.Status.TheVariants as status
@@ -9,7 +9,11 @@ use Rattle.import_lines.specs.Writes.{LastBy}
 use Rattle.ip_routes.specs.Telling as routes
 use Rattle.ip_monitor.specs.Telling as events
 use Rattle.json_routes.specs.Texts.{JsonBy}
-use Rattle.import_cli.specs.declared.asked.Format.TheVariants.{IpRoutes, IpMonitor, IpJson}
+use Rattle.cisco_lists.specs.Lines as lists
+use Rattle.fpm_frames.specs.Imported as frames
+use Rattle.fpm_routes.specs.Telling as messages
+use Rattle.iptables.specs.Telling as chains
+use Rattle.import_cli.specs.declared.asked.Format.TheVariants.{IpRoutes, IpMonitor, IpJson, Cisco, Fpm, Iptables}
 use Rattle.import_cli.specs.CommandLine.{ImportJob, NoJob, Tells, Imports}
 
 -- no line is read yet
@@ -19,13 +23,30 @@ no_routes version = record { version = version; hops = []; last = None }
 abbrev pub no_events : IpVersion → events.Known
 no_events version = record { version = version; hops = []; standings = [] }
 
--- A job is carried out: each line of what the source gave is accounted for; or the whole of it is, an array; or nothing is read, and the text is written whole, or
+-- the list of this name, or the only one where it is empty; a second one may be left out
+abbrev pub named_list : List ℕ → Option (List ℕ)
+named_list [] = None
+named_list (byte ∷ bytes) = Some (byte ∷ bytes)
+
+abbrev pub no_lines : List ℕ → Bool → lists.Known
+no_lines name leave_out = lists.first_known (named_list name) ((length name == 0) && not leave_out)
+
+abbrev pub no_messages : IpVersion → messages.Known
+no_messages version = record { version = version; hops = [] }
+
+-- A job is carried out: each line, or frame, of what the source gave is accounted for; or the whole of it is, an array; or nothing is read, and the text is written whole, or
 -- a part of it where the sink failed, or nothing where memory was wanting.
 abbrev pub CarriesOut : ImportJob → List (List ℕ) → Status → Option (List ℕ) → Option (List ℕ) → Type 0
 CarriesOut NoJob pieces answer old new = (pieces ≡ []) × LastBy (codes "usage\n") status.Usage answer old new
 CarriesOut (Tells text) pieces answer old new = (pieces ≡ []) × LastBy text status.Done answer old new
 CarriesOut (Imports IpRoutes version leave_out) pieces answer old new =
-    ImportsBy (telling routes.route_told routes.route_after routes.route_closing) leave_out (no_routes version) pieces answer old new
+    ImportsBy (telling routes.route_told routes.route_after routes.route_closed) leave_out (no_routes version) pieces answer old new
 CarriesOut (Imports IpMonitor version leave_out) pieces answer old new =
     ImportsBy (telling events.monitor_told events.monitor_after events.monitor_closing) leave_out (no_events version) pieces answer old new
 CarriesOut (Imports IpJson version leave_out) pieces answer old new = JsonBy leave_out (no_routes version) pieces answer old new
+CarriesOut (Imports (Cisco name) version leave_out) pieces answer old new =
+    ImportsBy (telling lists.cisco_told lists.cisco_after lists.cisco_closing) leave_out (no_lines name leave_out) pieces answer old new
+CarriesOut (Imports Fpm version leave_out) pieces answer old new =
+    frames.ImportsBy (frames.telling messages.fpm_told messages.fpm_after) (frames.first_standing leave_out (no_messages version)) pieces answer old new
+CarriesOut (Imports (Iptables hook) version leave_out) pieces answer old new =
+    ImportsBy (telling chains.line_told chains.line_after chains.save_closing) leave_out (chains.nothing_known version hook) pieces answer old new

@@ -1,3 +1,4 @@
+pub mod ListName
 pub mod OwnTexts
 pub mod CommandLine
 pub mod Jobs

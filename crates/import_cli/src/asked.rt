@@ -3,16 +3,18 @@
 ghost use Rattle.std.specs.Prelude.{◌≡◌, false, Err, IfOk, IfSome, IsErrOf, IsNone, map, string_bytes};
 ghost use Rattle.clap.specs.Words.{app_of, found_of, kind_of, rows_of, rule_of, subcommand_rows_of};
 ghost use Rattle.clap.specs.declared.builder.command.Command.TheViews.{out-Command};
-ghost use Rattle.import_cli.specs.CommandLine.{NoJob, asked_by, format_in, format_position, import_app, import_job, import_job_of, import_job_of_fault, import_line, imports_by, leave_out_flag, version_in, version_option};
+ghost use Rattle.import_cli.specs.CommandLine.{NoJob, asked_by, chain_at, chain_option, format_in, format_position, hook_in, import_app, import_job, import_job_of, import_job_of_fault, import_line, import_of, imports_by, leave_out_flag, list_at, list_option, version_in, version_option};
 
+use crate::list_name::ListName;
 use clap::error::ErrorKind;
 use clap::{Arg, ArgAction, ArgMatches, Command, Error};
+use iptables::Hook;
 use option_words::{WordsFault, text_of};
 use rule_model::IpVersion;
 use std::alloc::{AllocError, Global};
 
 /// A format that can be imported.
-#[derive(Clone, Copy, Debug, PartialEq, Eq)]
+#[derive(Drop)]
 pub enum Format {
     /// The lines of `ip -o route show`.
     IpRoutes,
@@ -20,10 +22,16 @@ pub enum Format {
     IpMonitor,
     /// The array of `ip -j route show`.
     IpJson,
+    /// Extended lists of Cisco IOS and Arista EOS, of which the one of this name is taken, or the only one where it is empty.
+    Cisco(ListName),
+    /// The frames of a routing daemon's FPM stream.
+    Fpm,
+    /// The lines of `iptables-save`, of which this chain is told.
+    Iptables(Hook),
 }
 
 /// What a command line asks for.
-#[derive(Clone, Copy, Debug, PartialEq, Eq)]
+#[derive(Drop)]
 pub enum Asked {
     /// An import of a format and a version of IP; lines that can't be said are left out or end it.
     Import {
@@ -65,6 +73,24 @@ fn leave_out_arg<'a>(alloc: Global) -> Arg<'a>
         .action(ArgAction::SetTrue)
 }
 
+/// The list that is taken.
+fn list_arg<'a>(alloc: Global) -> Arg<'a>
+    ensures rule { rule_of result ≡ list_option }
+    ensures global { result.global ≡ false }
+{
+    Arg::new(alloc, "list").long("list").action(ArgAction::Set)
+}
+
+/// The chain of which a list is told.
+fn chain_arg<'a>(alloc: Global) -> Arg<'a>
+    ensures rule { rule_of result ≡ chain_option }
+    ensures global { result.global ≡ false }
+{
+    Arg::new(alloc, "chain")
+        .long("chain")
+        .action(ArgAction::Set)
+}
+
 /// The subcommand for imports.
 fn import_command<'a>(alloc: Global) -> Result<Command<'a>, AllocError>
     ensures app { IfOk result (λ c. app_of c ≡ import_app) }
@@ -74,7 +100,9 @@ fn import_command<'a>(alloc: Global) -> Result<Command<'a>, AllocError>
         Command::new(alloc, "import")
             .arg(format_arg(alloc))?
             .arg(version_arg(alloc))?
-            .arg(leave_out_arg(alloc))?,
+            .arg(leave_out_arg(alloc))?
+            .arg(list_arg(alloc))?
+            .arg(chain_arg(alloc))?,
     )
 }
 
@@ -125,11 +153,89 @@ fn job_of_import(found: &ArgMatches) -> Option<Asked>
     ensures asked { IfSome result (λ job. imports_by (rows_of (found_of found.now)) ≡ asked_by job) }
     ensures none { IsNone result → imports_by (rows_of (found_of found.now)) ≡ NoJob }
 {
-    Some(Asked::Import {
-        format: format_named(text_of(found, "format"))?,
-        version: version_named(text_of(found, "version"))?,
-        leave_out: text_of(found, "leave-out") == "true",
-    })
+    let listed = format_of(
+        format_named(text_of(found, "format"))?,
+        text_of(found, "list"),
+    )?;
+    let format = chain_of(listed, text_of(found, "chain"))?;
+    let version = version_named(text_of(found, "version"))?;
+    import_of(format, version, text_of(found, "leave-out") == "true")
+}
+
+/// An import of a format and a version of IP: lists of IPv6 aren't taken.
+fn import_of(format: Format, version: IpVersion, leave_out: bool) -> Option<Asked>
+    ensures asked { IfSome result (λ job. import_of format version leave_out ≡ asked_by job) }
+    ensures none { IsNone result → import_of format version leave_out ≡ NoJob }
+{
+    match format {
+        Format::Cisco(name) => import_list(name, version, leave_out),
+        Format::IpRoutes => Some(Asked::Import {
+            format: Format::IpRoutes,
+            version,
+            leave_out,
+        }),
+        Format::IpMonitor => Some(Asked::Import {
+            format: Format::IpMonitor,
+            version,
+            leave_out,
+        }),
+        Format::IpJson => Some(Asked::Import {
+            format: Format::IpJson,
+            version,
+            leave_out,
+        }),
+        Format::Fpm => Some(Asked::Import {
+            format: Format::Fpm,
+            version,
+            leave_out,
+        }),
+        Format::Iptables(hook) => Some(Asked::Import {
+            format: Format::Iptables(hook),
+            version,
+            leave_out,
+        }),
+    }
+}
+
+/// An import of a list, of IPv4.
+fn import_list(name: ListName, version: IpVersion, leave_out: bool) -> Option<Asked>
+    ensures asked { IfSome result (λ job. import_of (Format.Cisco name) version leave_out ≡ asked_by job) }
+    ensures none { IsNone result → import_of (Format.Cisco name) version leave_out ≡ NoJob }
+{
+    match version {
+        IpVersion::V4 => Some(Asked::Import {
+            format: Format::Cisco(name),
+            version,
+            leave_out,
+        }),
+        IpVersion::V6 => None,
+    }
+}
+
+/// A format, and the list of this name, which is empty where none is asked for: no other format has lists.
+fn format_of(format: Format, list: &str) -> Option<Format>
+    ensures { result ≡ list_at format list.now }
+{
+    if list.is_empty() {
+        return Some(format);
+    }
+    match format {
+        Format::Cisco(_) => Some(Format::Cisco(ListName::new(list.as_bytes())?)),
+        _ => None,
+    }
+}
+
+/// A format, and the chain of this name, which is empty where none is asked for: no other format has chains.
+fn chain_of(format: Format, chain: &str) -> Option<Format>
+    ensures { result ≡ chain_at format chain.now }
+{
+    if chain.is_empty() {
+        return Some(format);
+    }
+    match format {
+        Format::Iptables(_) => Some(Format::Iptables(hook_named(chain)?)),
+        _ => None,
+    }
 }
 
 /// The format of a name.
@@ -140,6 +246,21 @@ fn format_named(name: &str) -> Option<Format>
         "ip-routes" => Some(Format::IpRoutes),
         "ip-monitor" => Some(Format::IpMonitor),
         "ip-json" => Some(Format::IpJson),
+        "cisco" => Some(Format::Cisco(ListName::none())),
+        "fpm" => Some(Format::Fpm),
+        "iptables" => Some(Format::Iptables(Hook::Input)),
+        _ => None,
+    }
+}
+
+/// The chain of a name.
+fn hook_named(name: &str) -> Option<Hook>
+    ensures { result ≡ hook_in name.now }
+{
+    match name {
+        "INPUT" => Some(Hook::Input),
+        "FORWARD" => Some(Hook::Forward),
+        "OUTPUT" => Some(Hook::Output),
         _ => None,
     }
 }

@@ -1,22 +1,27 @@
 //! The top call: a command line, a source and a sink.
 
-ghost use Rattle.std.specs.Prelude.{◌≡◌, Bool, ℕ, List, map, string_bytes};
+ghost use Rattle.std.specs.Prelude.{◌≡◌, Bool, ℕ, List, IfOk, map, string_bytes};
 ghost use Rattle.call_history.specs.Cause.{IsCounted};
 ghost use Rattle.script_lines.specs.Given.{GivesPieces, counted};
 ghost use Rattle.import_cli.specs.CommandLine.{Imports, asked_by, import_job};
-ghost use Rattle.import_cli.specs.Jobs.{CarriesOut};
+ghost use Rattle.import_cli.specs.Jobs.{CarriesOut, no_lines};
 
 use crate::asked::{Asked, Format, read_words};
+use crate::list_name::ListName;
 use crate::texts::{IMPORT_HELP, USAGE};
+use cisco_lists::CiscoList;
+use fpm_frames::import_frames;
+use fpm_routes::FpmRoutes;
 use import_lines::{import, write_last};
 use ip_monitor::IpMonitor;
 use ip_routes::IpRoutes;
+use iptables::Iptables;
 use json_routes::import_json;
 use option_words::WordsFault;
 use rule_model::IpVersion;
 use script_lines::{Sink, Source};
 use script_runs::Status;
-use std::alloc::Global;
+use std::alloc::{AllocError, Global};
 
 /// Does what the words ask for, the program's name first, `import` behind it, and then a format and options: writes the
 /// script that the source's lines are to the sink, line by line, or the product's own text. The statuses are those of
@@ -96,5 +101,40 @@ fn carry_import<S: Source, K: Sink>(
             )
         }
         Format::IpJson => import_json(alloc, version, leave_out, source, sink),
+        Format::Cisco(name) => {
+            match list_named(alloc, &name, leave_out) {
+                Ok(list) => import(alloc, list, leave_out, source, sink),
+                Err(_) => Status::Memory,
+            }
+        }
+        Format::Fpm => {
+            import_frames(
+                alloc,
+                FpmRoutes::new(alloc, version),
+                leave_out,
+                source,
+                sink,
+            )
+        }
+        Format::Iptables(hook) => {
+            import(
+                alloc,
+                Iptables::new(alloc, version, hook),
+                leave_out,
+                source,
+                sink,
+            )
+        }
     }
+}
+
+/// The list of this name, or the only one where it is empty. A second one may be left out.
+fn list_named(alloc: Global, name: &ListName, leave_out: bool) -> Result<CiscoList, AllocError>
+    ensures { IfOk result (λ list. list ≡ no_lines name.now leave_out) }
+{
+    let bytes = name.as_bytes();
+    if bytes.is_empty() {
+        return Ok(CiscoList::new(None, !leave_out));
+    }
+    Ok(CiscoList::new(Some(Vec::from_slice(alloc, bytes)?), false))
 }

@@ -8,4 +8,6 @@ unfolding import_app
 returns-clause-app c =
     let format = c.in_ok-arg.ensures.shape c.format_arg.ensures.global ∙ ap₂ with_rule c.new.ensures.app c.format_arg.ensures.rule in
     let version = c.in_ok-arg-2.ensures.shape c.version_arg.ensures.global ∙ ap₂ with_rule format c.version_arg.ensures.rule in
-    c.in_ok-arg-3.ensures.shape c.leave_out_arg.ensures.global ∙ ap₂ with_rule version c.leave_out_arg.ensures.rule
+    let leave_out = c.in_ok-arg-3.ensures.shape c.leave_out_arg.ensures.global ∙ ap₂ with_rule version c.leave_out_arg.ensures.rule in
+    let list = c.in_ok-arg-4.ensures.shape c.list_arg.ensures.global ∙ ap₂ with_rule leave_out c.list_arg.ensures.rule in
+    c.in_ok-arg-5.ensures.shape c.chain_arg.ensures.global ∙ ap₂ with_rule list c.chain_arg.ensures.rule

@@ -1,4 +1,8 @@
-use Rattle.import_cli.proofs.Carried.{carries-routes, carries-events, carries-json}
+use Rattle.std.proofs.Common.{[]}
+use Rattle.script_lines.specs.Given.{counted}
+use Rattle.script_lines.proofs.Turns.{gives-none}
+use Rattle.import_cli.specs.CommandLine.{Imports}
+use Rattle.import_cli.proofs.Carried.{carries-routes, carries-events, carries-json, carries-list, carries-frames, carries-chains, wanting}
 use Rattle.import_cli.proofs.top.carry_import.Goals as goal
 
 pub returns-in-IpRoutes-clause-job : goal.returns-in-IpRoutes-clause-job
@@ -15,3 +19,22 @@ pub returns-in-IpJson-clause-job : goal.returns-in-IpJson-clause-job
 returns-in-IpJson-clause-job g c =
     let by = c.import_json.ensures.imports in
     (by.0, by.1, λ which. carries-json _ _ _ _ _ _ _ c.in-IpJson.is (by.2 which))
+
+pub returns-in-Ok-clause-job : goal.returns-in-Ok-clause-job
+returns-in-Ok-clause-job g c =
+    let by = c.import-in-Ok.ensures.imports in
+    (by.0, by.1, λ which. carries-list _ _ _ _ _ _ _ _ _ c.in-Cisco.is c.in-Ok.ensures (by.2 which))
+
+pub returns-in-Err-clause-job : goal.returns-in-Err-clause-job
+returns-in-Err-clause-job g c =
+    ([], gives-none _ _, λ which. wanting (Imports c.args.format c.args.version c.args.leave_out) (counted which (g.K.Sink.taken c.args.sink.now) (g.K.Sink.accepted c.args.sink.now)))
+
+pub returns-in-Fpm-clause-job : goal.returns-in-Fpm-clause-job
+returns-in-Fpm-clause-job g c =
+    let by = c.import_frames.ensures.imports in
+    (by.0, by.1, λ which. carries-frames _ _ _ _ _ _ _ _ c.in-Fpm.is c.new-in-Fpm.ensures (by.2 which))
+
+pub returns-in-Iptables-clause-job : goal.returns-in-Iptables-clause-job
+returns-in-Iptables-clause-job g c =
+    let by = c.import-in-Iptables.ensures.imports in
+    (by.0, by.1, λ which. carries-chains _ _ _ _ _ _ _ _ _ c.in-Iptables.is c.new-in-Iptables.ensures (by.2 which))
