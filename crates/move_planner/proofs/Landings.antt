@@ -1,6 +1,7 @@
 -- Where the last member of a chain goes, as it was computed.
 use Rattle.std.proofs.Common.{◌≡◌, ℕ, zero, suc, ◌≤◌, Bool, true, false, List, [], ◌∷◌, length, inl, inr, lit≤, arith, refl, sym, ◌∙◌, subst, ap}
 use Rattle.std.specs.Prelude.{slice_index_or}
+use Rattle.slot_moves.specs.Moves.{Downwards, Upwards}
 use Rattle.slot_pool.specs.Arrangement.{Slots}
 use Rattle.slot_pool.proofs.Scan.{next_free_is, last_free_is}
 use Rattle.placement.specs.Live.{LivePieces, is_above, rank_in}
@@ -8,7 +9,7 @@ use Rattle.placement.specs.Placement.{Aiming, rank_slot, last_of, landing_down, 
 use Rattle.placement.specs.Ready.{CanShift, IsReady}
 use Rattle.placement.proofs.Planner.{Related}
 use Rattle.placement.proofs.Landing.{LandsDown, LandsUp, lands_down, lands_up, down_end, up_end}
-use Rattle.placement.proofs.Readied.{down_can_shift, up_can_shift}
+use Rattle.placement.proofs.Readied.{can_shift}
 use Rattle.move_planner.specs.declared.chains.Chain.{Chain}
 use Rattle.move_planner.specs.Boundary.{one}
 use Rattle.move_planner.specs.Steps.{DownWay, UpWay, IsWay, Landed}
@@ -62,10 +63,10 @@ module _ (index : LivePieces) (aiming : Aiming) (id : ℕ) (slots : Slots) (chai
       let l = down_lands w in
       let d = chain_down index id slots w.lower landed.free w.down.rest ready h.lower h.stands l.chain in
       subst (CanShift slots landed.free) (sym (ap (λ m. m.items) is.same ∙ w.down.members))
-      (down_can_shift (Related (is_above index.live)) (rank_in index.live) slots landed.free w.lower w.down.rest d.chain l.empty.inside l.empty.free)
+      (can_shift Downwards (Related (is_above index.live)) (rank_in index.live) slots landed.free w.lower w.down.rest d.chain l.empty.inside l.empty.free)
   landed_shifts (inr w) =
       let h = high_at index id slots w.upper ready w.high in
       let l = up_lands w in
       let d = chain_up index id slots w.upper landed.free w.up.rest ready h.upper h.stands l.chain in
       subst (CanShift slots landed.free) (sym (ap (λ m. m.items) is.same ∙ w.up.members))
-      (up_can_shift (Related (is_above index.live)) (rank_in index.live) slots landed.free w.upper w.up.rest d.chain l.empty.inside l.empty.free)
+      (can_shift Upwards (Related (is_above index.live)) (rank_in index.live) slots landed.free w.upper w.up.rest d.chain l.empty.inside l.empty.free)

@@ -9,7 +9,7 @@ use Rattle.slot_moves.specs.Moves.{chain_moves, Turn, Down, Up, turn_moves}
 use Rattle.slot_moves.specs.Cuts.{holds, early, late, HasRoom}
 use Rattle.slot_order.proofs.Writes.{slot_inside}
 use Rattle.slot_moves.proofs.Count.{length-chain_moves}
-use Rattle.slot_moves.proofs.Passing.{IsPass, HasSides, Passed, ShowsDown, ShowsUp, GoesDown, GoesUp, pass_keeps, shows_down, shows_up, goes_down, goes_up}
+use Rattle.slot_moves.proofs.Passing.{IsPass, HasSides, Passed, Shows, GoesDown, GoesUp, pass_keeps, shows_down, shows_up, goes_down, goes_up}
 use Rattle.slot_moves.proofs.Passes.{room_down, room_up}
 use Rattle.slot_pool.specs.Arrangement.{Slots, next_free_above, last_free_below}
 use Rattle.slot_pool.proofs.Scan.{next_free_is, last_free_is}
@@ -178,7 +178,7 @@ module _ (index : LivePieces) (id : ℕ) (behind before : ℕ → Bool) (slots :
       size : length slots' ≡ length slots
       size = ap length there ∙ k.size
 
-      shows : ShowsDown behind before slots (applied slots (turn_moves slots turn)) went.down.free lower
+      shows : Shows behind before slots (applied slots (turn_moves slots turn)) went.down.free lower
       shows = shows_down (Related (is_above index.live)) (rank_in index.live) (IsOther index.live id) (IsLive index.live) behind before cut.boundary slots went.down.free lower went.down.rest has ordered is
 
       g : GoesDown behind before cut.boundary slots (applied slots (turn_moves slots turn))
@@ -275,7 +275,7 @@ module _ (index : LivePieces) (id : ℕ) (behind before : ℕ → Bool) (slots :
       size : length slots' ≡ length slots
       size = ap length there ∙ k.size
 
-      shows : ShowsUp behind before slots (applied slots (turn_moves slots turn)) went.up.free upper
+      shows : Shows before behind slots (applied slots (turn_moves slots turn)) went.up.free upper
       shows = shows_up (Related (is_above index.live)) (rank_in index.live) (IsOther index.live id) (IsLive index.live) behind before cut.boundary slots went.up.free upper went.up.rest has ordered is
 
       g : GoesUp behind before cut.boundary slots (applied slots (turn_moves slots turn))

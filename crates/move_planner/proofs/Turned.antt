@@ -1,6 +1,7 @@
 -- The chains of an arrangement that is ready, in slot_order's words, and that they can move.
 use Rattle.std.proofs.Common.{◌≡◌, ℕ, Some, List, ◌∷◌, sym, subst}
 use Rattle.slot_order.specs.Order.{slot}
+use Rattle.slot_moves.specs.Moves.{Downwards, Upwards}
 use Rattle.slot_pool.specs.Arrangement.{Slots, next_free_above, last_free_below}
 use Rattle.slot_pool.proofs.Scan.{next_free_is, last_free_is}
 use Rattle.placement.specs.Live.{LivePieces, is_above, rank_in}
@@ -12,7 +13,7 @@ use Rattle.move_planner.specs.Steps.{IsDown as FoundDown, IsUp as FoundUp}
 use Rattle.placement.proofs.Chain.{Reads, lower_is, upper_is, down_is, up_is, IsDown, IsUp, LowerAt, UpperAt}
 use Rattle.placement.proofs.Planner.{Related, ranked_reads}
 use Rattle.placement.proofs.Orders.{ranked}
-use Rattle.placement.proofs.Readied.{ready_ordered, down_can_shift, up_can_shift}
+use Rattle.placement.proofs.Readied.{ready_ordered, can_shift}
 
 -- whatever stands is known
 abbrev pub Any : ℕ → Type 0
@@ -51,11 +52,11 @@ pub down_shifts : (index : LivePieces) (id : ℕ) (slots : Slots) (lower past he
 down_shifts index id slots lower past held chain ready here d =
     let c = chain_down index id slots lower chain.free d.rest ready held here d.follows in
     let f = (next_free_is slots past chain.free d.to).1 in
-    subst (CanShift slots chain.free) (sym d.members) (down_can_shift (Related (is_above index.live)) (rank_in index.live) slots chain.free lower d.rest c.chain f.inside f.free)
+    subst (CanShift slots chain.free) (sym d.members) (can_shift Downwards (Related (is_above index.live)) (rank_in index.live) slots chain.free lower d.rest c.chain f.inside f.free)
 
 pub up_shifts : (index : LivePieces) (id : ℕ) (slots : Slots) (upper past held : ℕ) (chain : Chain) → IsReady index id slots → slot slots upper ≡ Some held
     → FoundUp (is_above index.live) slots upper (last_free_below slots past) chain → CanShift slots chain.free chain.members.items
 up_shifts index id slots upper past held chain ready here d =
     let c = chain_up index id slots upper chain.free d.rest ready held here d.follows in
     let f = (last_free_is slots past chain.free d.to).1 in
-    subst (CanShift slots chain.free) (sym d.members) (up_can_shift (Related (is_above index.live)) (rank_in index.live) slots chain.free upper d.rest c.chain f.inside f.free)
+    subst (CanShift slots chain.free) (sym d.members) (can_shift Upwards (Related (is_above index.live)) (rank_in index.live) slots chain.free upper d.rest c.chain f.inside f.free)

@@ -4,7 +4,7 @@ use Rattle.std.proofs.lemmas.List.{map-append}
 use Rattle.std.proofs.lemmas.Bool.{cases_lt, both_ways}
 use Rattle.slot_order.specs.Order.{slot, Ordered}
 use Rattle.slot_order.specs.Chains.{applied}
-use Rattle.slot_moves.specs.Moves.{chain_moves, IsFloor, IsCeiling, IsDownChain, IsUpChain}
+use Rattle.slot_moves.specs.Moves.{Downwards, Upwards, IsMoveChain, chain_moves, IsFloor, IsCeiling}
 use Rattle.slot_order.proofs.Writes.{slot_inside}
 use Rattle.slot_pool.specs.Arrangement.{Slots, passes}
 use Rattle.slot_pool.proofs.Places.{find_range_none, first_slot_is}
@@ -161,7 +161,7 @@ stands_before over tag P slots i j a b o s t v l = elim (cases_lt i j) [
 
 -- a planned chain in both words, with its moves
 pub record IsDown (over : ℕ → ℕ → Type 0) (tag : ℕ → ℕ) (slots : Slots) (free first : ℕ) (rest : List ℕ) : Type 0 where
-  pub chain : IsDownChain over tag slots free first rest
+  pub chain : IsMoveChain Downwards over tag slots free first rest
   pub moves : map write_of (moves_along slots free (first ∷ rest)) ≡ chain_moves slots free first rest
 
 held_moves : (slots : Slots) (to at id : ℕ) → slot slots at ≡ Some id → map write_of (put_held to (slot slots at)) ≡ (to, slot slots at) ∷ []
@@ -207,7 +207,7 @@ down_is over tag P Known above slots free first id (next ∷ rest) reads up o s 
     }
 
 pub record IsUp (over : ℕ → ℕ → Type 0) (tag : ℕ → ℕ) (slots : Slots) (free first : ℕ) (rest : List ℕ) : Type 0 where
-  pub chain : IsUpChain over tag slots free first rest
+  pub chain : IsMoveChain Upwards over tag slots free first rest
   pub moves : map write_of (moves_along slots free (first ∷ rest)) ≡ chain_moves slots free first rest
 
 pub up_is : (over : ℕ → ℕ → Type 0) (tag : ℕ → ℕ) (P Known : ℕ → Type 0) (above : Above) (slots : Slots) (free first id : ℕ) (rest : List ℕ)

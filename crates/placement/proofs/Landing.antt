@@ -2,7 +2,7 @@
 use Rattle.std.proofs.Common.{◌≡◌, ℕ, ◌+◌, ◌-◌, ◌<◌, ◌≤◌, ◌⊎◌, Option, None, Some, List, [], ◌∷◌, length, inl, inr, arith, refl, sym, subst}
 use Rattle.std.specs.Option.{unwrap_or}
 use Rattle.slot_order.specs.Order.{slot}
-use Rattle.slot_moves.specs.Moves.{IsDownChain, IsUpChain}
+use Rattle.slot_moves.specs.Moves.{Downwards, Upwards, IsMoveChain}
 use Rattle.slot_pool.specs.Arrangement.{Slots, nearest_free}
 use Rattle.slot_pool.proofs.Scan.{IsFree, nearest_free_is}
 use Rattle.placement.specs.Placement.{Above, Aiming, next_slot, step_down, step_up, wished_by, share_of_held, landing_in, landing_down, landing_up, last_of, StopsBelow, StopsAbove, IsDownChain as PlansDown, IsUpChain as PlansUp}
@@ -18,14 +18,14 @@ up_end above slots free from [] chain = chain.0
 up_end above slots free from (next ∷ rest) chain = up_end above slots free next rest chain.2
 
 -- the same slots are a chain to any slot beyond the last member that nothing stops it before
-pub down_to : (over : ℕ → ℕ → Type 0) (tag : ℕ → ℕ) (above : Above) (slots : Slots) (free to from : ℕ) (rest : List ℕ) → IsDownChain over tag slots free from rest
+pub down_to : (over : ℕ → ℕ → Type 0) (tag : ℕ → ℕ) (above : Above) (slots : Slots) (free to from : ℕ) (rest : List ℕ) → IsMoveChain Downwards over tag slots free from rest
     → PlansDown above slots free (from ∷ rest) → last_of from rest < to → StopsBelow to (step_down above slots (last_of from rest)) → PlansDown above slots to (from ∷ rest)
 down_to over tag above slots free to from [] rises chain less stops = (less, stops)
 down_to over tag above slots free to from (next ∷ rest) rises chain less stops =
     let later = down_to over tag above slots free to next rest rises.1 chain.2 less stops in
     let a = starts_below above slots to next rest later in let b = rises.0.2 in (omega arith, chain.1, later)
 
-pub up_to : (over : ℕ → ℕ → Type 0) (tag : ℕ → ℕ) (above : Above) (slots : Slots) (free to from : ℕ) (rest : List ℕ) → IsUpChain over tag slots free from rest
+pub up_to : (over : ℕ → ℕ → Type 0) (tag : ℕ → ℕ) (above : Above) (slots : Slots) (free to from : ℕ) (rest : List ℕ) → IsMoveChain Upwards over tag slots free from rest
     → PlansUp above slots free (from ∷ rest) → to < last_of from rest → StopsAbove to (step_up above slots (last_of from rest)) → PlansUp above slots to (from ∷ rest)
 up_to over tag above slots free to from [] falls chain less stops = (less, stops)
 up_to over tag above slots free to from (next ∷ rest) falls chain less stops =
@@ -63,7 +63,7 @@ pub record LandsUp (above : Above) (slots : Slots) (from : ℕ) (rest : List ℕ
   pub chain : PlansUp above slots to (from ∷ rest)
 
 pub lands_down : (over : ℕ → ℕ → Type 0) (tag : ℕ → ℕ) (above : Above) (priority : ℕ → ℕ) (aiming : Aiming) (slots : Slots) (free from : ℕ) (rest : List ℕ) → IsFree slots free
-    → IsDownChain over tag slots free from rest → PlansDown above slots free (from ∷ rest) → LandsDown above slots from rest (landing_down above priority aiming slots free (last_of from rest))
+    → IsMoveChain Downwards over tag slots free from rest → PlansDown above slots free (from ∷ rest) → LandsDown above slots from rest (landing_down above priority aiming slots free (last_of from rest))
 lands_down over tag above priority aiming slots free from rest empty rises chain = go lands.1
   where
     last : ℕ
@@ -86,7 +86,7 @@ lands_down over tag above priority aiming slots free from rest empty rises chain
     }
 
 pub lands_up : (over : ℕ → ℕ → Type 0) (tag : ℕ → ℕ) (above : Above) (priority : ℕ → ℕ) (aiming : Aiming) (slots : Slots) (free from : ℕ) (rest : List ℕ) → IsFree slots free
-    → IsUpChain over tag slots free from rest → PlansUp above slots free (from ∷ rest) → LandsUp above slots from rest (landing_up above priority aiming slots free (last_of from rest))
+    → IsMoveChain Upwards over tag slots free from rest → PlansUp above slots free (from ∷ rest) → LandsUp above slots from rest (landing_up above priority aiming slots free (last_of from rest))
 lands_up over tag above priority aiming slots free from rest empty falls chain = go lands.1
   where
     last : ℕ

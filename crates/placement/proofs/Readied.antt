@@ -3,7 +3,8 @@ use Rattle.std.proofs.Common.{◌≡◌, ℕ, zero, suc, ◌+◌, ◌<◌, ◌�
 use Rattle.std.specs.Prelude.{slice_index_or, IsTrue}
 use Rattle.std.proofs.lemmas.Bool.{false_from_ne_true, both_ways}
 use Rattle.slot_order.specs.Order.{slot, Ordered, most_slots}
-use Rattle.slot_moves.specs.Moves.{IsDownChain, IsUpChain}
+use Rattle.slot_moves.specs.Moves.{Way, Downwards, Upwards, IsBefore, IsNoLater, IsMoveChain}
+use Rattle.slot_moves.proofs.Ways.{no_later_self, no_later, no_later_all, before_then, apart}
 use Rattle.slot_pool.specs.Arrangement.{Slots}
 use Rattle.placement.specs.Live.{LivePieces, AreApart, is_live, is_above, rank_in}
 use Rattle.std.specs.Option.{unwrap_or}
@@ -38,79 +39,47 @@ order_from above rank P slots ranked o i j a b l s t = false_from_ne_true (above
     absurd (omega arith))
 
 -- the slots of a chain rise, so there are no more than there are slots before the free one
-pub down_size : (over : ℕ → ℕ → Type 0) (tag : ℕ → ℕ) (slots : Slots) (free first : ℕ) (rest : List ℕ) → IsDownChain over tag slots free first rest
+pub down_size : (over : ℕ → ℕ → Type 0) (tag : ℕ → ℕ) (slots : Slots) (free first : ℕ) (rest : List ℕ) → IsMoveChain Downwards over tag slots free first rest
     → length rest + 1 + first ≤ free
 down_size over tag slots free first [] c = let l = c.2 in omega arith
 down_size over tag slots free first (next ∷ rest) c = let h = down_size over tag slots free next rest c.1 in let l = c.0.2 in omega arith
 
-pub up_size : (over : ℕ → ℕ → Type 0) (tag : ℕ → ℕ) (slots : Slots) (free first : ℕ) (rest : List ℕ) → IsUpChain over tag slots free first rest
+pub up_size : (over : ℕ → ℕ → Type 0) (tag : ℕ → ℕ) (slots : Slots) (free first : ℕ) (rest : List ℕ) → IsMoveChain Upwards over tag slots free first rest
     → length rest + 1 + free ≤ first
 up_size over tag slots free first [] c = let l = c.2 in omega arith
 up_size over tag slots free first (next ∷ rest) c = let h = up_size over tag slots free next rest c.1 in let l = c.0.2 in omega arith
 
-down_rises : (over : ℕ → ℕ → Type 0) (tag : ℕ → ℕ) (slots : Slots) (free first : ℕ) (rest : List ℕ) → IsDownChain over tag slots free first rest
-    → (k : ℕ) → k < length (first ∷ rest) → first ≤ slice_index_or (first ∷ rest) k free
-down_rises over tag slots free first rest c zero l = omega arith
-down_rises over tag slots free first [] c (suc k) l = absurd (omega arith)
-down_rises over tag slots free first (next ∷ rest) c (suc k) l =
-    let h = down_rises over tag slots free next rest c.1 k (omega arith) in let m = c.0.2 in omega arith
+none_before : (way : Way) (over : ℕ → ℕ → Type 0) (tag : ℕ → ℕ) (slots : Slots) (free first : ℕ) (rest : List ℕ) → IsMoveChain way over tag slots free first rest
+    → (k : ℕ) → k < length (first ∷ rest) → IsNoLater way first (slice_index_or (first ∷ rest) k free)
+none_before way over tag slots free first rest c zero l = no_later_self way first
+none_before way over tag slots free first [] c (suc k) l = absurd (omega arith)
+none_before way over tag slots free first (next ∷ rest) c (suc k) l =
+    no_later_all way first next _ (no_later way first next c.0.2) (none_before way over tag slots free next rest c.1 k (omega arith))
 
-up_falls : (over : ℕ → ℕ → Type 0) (tag : ℕ → ℕ) (slots : Slots) (free first : ℕ) (rest : List ℕ) → IsUpChain over tag slots free first rest
-    → (k : ℕ) → k < length (first ∷ rest) → slice_index_or (first ∷ rest) k free ≤ first
-up_falls over tag slots free first rest c zero l = omega arith
-up_falls over tag slots free first [] c (suc k) l = absurd (omega arith)
-up_falls over tag slots free first (next ∷ rest) c (suc k) l =
-    let h = up_falls over tag slots free next rest c.1 k (omega arith) in let m = c.0.2 in omega arith
-
-down_taken : (over : ℕ → ℕ → Type 0) (tag : ℕ → ℕ) (slots : Slots) (free first : ℕ) (rest : List ℕ) → IsDownChain over tag slots free first rest
+all_taken : (way : Way) (over : ℕ → ℕ → Type 0) (tag : ℕ → ℕ) (slots : Slots) (free first : ℕ) (rest : List ℕ) → IsMoveChain way over tag slots free first rest
     → (k : ℕ) → k < length (first ∷ rest) → IsTaken slots (slice_index_or (first ∷ rest) k free)
-down_taken over tag slots free first [] c zero l = (c.0, c.1)
-down_taken over tag slots free first (next ∷ rest) c zero l = (c.0.0, c.0.1)
-down_taken over tag slots free first [] c (suc k) l = absurd (omega arith)
-down_taken over tag slots free first (next ∷ rest) c (suc k) l = down_taken over tag slots free next rest c.1 k (omega arith)
+all_taken way over tag slots free first [] c zero l = (c.0, c.1)
+all_taken way over tag slots free first (next ∷ rest) c zero l = (c.0.0, c.0.1)
+all_taken way over tag slots free first [] c (suc k) l = absurd (omega arith)
+all_taken way over tag slots free first (next ∷ rest) c (suc k) l = all_taken way over tag slots free next rest c.1 k (omega arith)
 
-up_taken : (over : ℕ → ℕ → Type 0) (tag : ℕ → ℕ) (slots : Slots) (free first : ℕ) (rest : List ℕ) → IsUpChain over tag slots free first rest
-    → (k : ℕ) → k < length (first ∷ rest) → IsTaken slots (slice_index_or (first ∷ rest) k free)
-up_taken over tag slots free first [] c zero l = (c.0, c.1)
-up_taken over tag slots free first (next ∷ rest) c zero l = (c.0.0, c.0.1)
-up_taken over tag slots free first [] c (suc k) l = absurd (omega arith)
-up_taken over tag slots free first (next ∷ rest) c (suc k) l = up_taken over tag slots free next rest c.1 k (omega arith)
-
-down_apart : (over : ℕ → ℕ → Type 0) (tag : ℕ → ℕ) (slots : Slots) (free first : ℕ) (rest : List ℕ) → IsDownChain over tag slots free first rest
-    → (j k : ℕ) → j < k → k < length (first ∷ rest) → slice_index_or (first ∷ rest) j free < slice_index_or (first ∷ rest) k free
-down_apart over tag slots free first rest c j zero l m = absurd (omega arith)
-down_apart over tag slots free first [] c j (suc k) l m = absurd (omega arith)
-down_apart over tag slots free first (next ∷ rest) c zero (suc k) l m =
-    let h = down_rises over tag slots free next rest c.1 k (omega arith) in let n = c.0.2 in omega arith
-down_apart over tag slots free first (next ∷ rest) c (suc j) (suc k) l m = down_apart over tag slots free next rest c.1 j k (omega arith) (omega arith)
-
-up_apart : (over : ℕ → ℕ → Type 0) (tag : ℕ → ℕ) (slots : Slots) (free first : ℕ) (rest : List ℕ) → IsUpChain over tag slots free first rest
-    → (j k : ℕ) → j < k → k < length (first ∷ rest) → slice_index_or (first ∷ rest) k free < slice_index_or (first ∷ rest) j free
-up_apart over tag slots free first rest c j zero l m = absurd (omega arith)
-up_apart over tag slots free first [] c j (suc k) l m = absurd (omega arith)
-up_apart over tag slots free first (next ∷ rest) c zero (suc k) l m =
-    let h = up_falls over tag slots free next rest c.1 k (omega arith) in let n = c.0.2 in omega arith
-up_apart over tag slots free first (next ∷ rest) c (suc j) (suc k) l m = up_apart over tag slots free next rest c.1 j k (omega arith) (omega arith)
+in_turn : (way : Way) (over : ℕ → ℕ → Type 0) (tag : ℕ → ℕ) (slots : Slots) (free first : ℕ) (rest : List ℕ) → IsMoveChain way over tag slots free first rest
+    → (j k : ℕ) → j < k → k < length (first ∷ rest) → IsBefore way (slice_index_or (first ∷ rest) j free) (slice_index_or (first ∷ rest) k free)
+in_turn way over tag slots free first rest c j zero l m = absurd (omega arith)
+in_turn way over tag slots free first [] c j (suc k) l m = absurd (omega arith)
+in_turn way over tag slots free first (next ∷ rest) c zero (suc k) l m =
+    before_then way first next _ c.0.2 (none_before way over tag slots free next rest c.1 k (omega arith))
+in_turn way over tag slots free first (next ∷ rest) c (suc j) (suc k) l m = in_turn way over tag slots free next rest c.1 j k (omega arith) (omega arith)
 
 -- so they can move
-pub down_can_shift : (over : ℕ → ℕ → Type 0) (tag : ℕ → ℕ) (slots : Slots) (free first : ℕ) (rest : List ℕ) → IsDownChain over tag slots free first rest
+pub can_shift : (way : Way) (over : ℕ → ℕ → Type 0) (tag : ℕ → ℕ) (slots : Slots) (free first : ℕ) (rest : List ℕ) → IsMoveChain way over tag slots free first rest
     → free < length slots → slot slots free ≡ None → CanShift slots free (first ∷ rest)
-down_can_shift over tag slots free first rest c room empty = record {
+can_shift way over tag slots free first rest c room empty = record {
   some = omega arith;
   room = room;
   empty = empty;
-  taken = down_taken over tag slots free first rest c;
-  apart = λ j k l m e. let h = down_apart over tag slots free first rest c j k l m in omega arith;
-}
-
-pub up_can_shift : (over : ℕ → ℕ → Type 0) (tag : ℕ → ℕ) (slots : Slots) (free first : ℕ) (rest : List ℕ) → IsUpChain over tag slots free first rest
-    → free < length slots → slot slots free ≡ None → CanShift slots free (first ∷ rest)
-up_can_shift over tag slots free first rest c room empty = record {
-  some = omega arith;
-  room = room;
-  empty = empty;
-  taken = up_taken over tag slots free first rest c;
-  apart = λ j k l m e. let h = up_apart over tag slots free first rest c j k l m in omega arith;
+  taken = all_taken way over tag slots free first rest c;
+  apart = λ j k l m. apart way _ _ (in_turn way over tag slots free first rest c j k l m);
 }
 
 -- the gap begins with a slot, or past the last one

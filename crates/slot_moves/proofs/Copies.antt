@@ -2,10 +2,10 @@
 use Rattle.std.proofs.Common.{◌≡◌, ℕ, ◌<◌, ◌++◌, Bool, Option, None, Some, List, [], ◌∷◌, length, inl, inr, ◌⊎◌, sym, ◌∙◌, subst, ap}
 use Rattle.slot_order.specs.Order.{slot, Ordered}
 use Rattle.slot_order.specs.Chains.{applied, Along}
-use Rattle.slot_moves.specs.Moves.{chain_moves, IsDownChain, IsUpChain, Turn, Down, Up, turn_moves, turns_moves}
+use Rattle.slot_moves.specs.Moves.{Way, Downwards, Upwards, IsMoveChain, chain_moves, Turn, Down, Up, turn_moves, turns_moves}
 use Rattle.slot_moves.proofs.Chains.{Along_push, applied_push}
 use Rattle.slot_moves.proofs.End.{IsEnd, onto_free, over_down, over_up}
-use Rattle.slot_moves.proofs.Once.{AllOnce, OneTwice, down_once, up_once}
+use Rattle.slot_moves.proofs.Once.{AllOnce, OneTwice, moved_once}
 use Rattle.slot_moves.proofs.Passes.{passes_keep}
 use Rattle.slot_moves.proofs.Passing.{IsPass, ArePasses, HasSides, pass_keeps}
 use Rattle.slot_order.proofs.Walks.{Along_append}
@@ -15,32 +15,23 @@ use Rattle.slot_moves.proofs.Whole.{IsWhole, whole_once}
 abbrev pub AtMostOneTwice : {E : Type 0} → List (Option E) → Type 0
 AtMostOneTwice {E} d = AllOnce d ⊎ ((s : ℕ) × (e : E) × OneTwice d s e)
 
-down_few : {E : Type 0} (over : E → E → Type 0) (tag : E → ℕ) (P : E → Type 0) (d : List (Option E)) (f s : ℕ) (rest : List ℕ) (e : E)
-    → ((x y : E) → over x y → over y x) → Ordered over tag P d → AllOnce d → f < length d → slot d f ≡ None → slot d s ≡ Some e → IsDownChain over tag d f s rest
+moved_few : {E : Type 0} (way : Way) (over : E → E → Type 0) (tag : E → ℕ) (P : E → Type 0) (d : List (Option E)) (f s : ℕ) (rest : List ℕ) (e : E)
+    → ((x y : E) → over x y → over y x) → Ordered over tag P d → AllOnce d → f < length d → slot d f ≡ None → slot d s ≡ Some e → IsMoveChain way over tag d f s rest
     → Along AtMostOneTwice d (chain_moves d f s rest)
-down_few over tag P d f s [] e mirror o once room free stands c = (inl once, inr (s, e, down_once over tag P d f s [] e mirror o once room free stands c))
-down_few over tag P d f s (t ∷ rest) e mirror o once room free stands c =
+moved_few way over tag P d f s [] e mirror o once room free stands c = (inl once, inr (s, e, moved_once way over tag P d f s [] e mirror o once room free stands c))
+moved_few way over tag P d f s (t ∷ rest) e mirror o once room free stands c =
     let g = c.0.4.0 in
-    Along_push AtMostOneTwice d (chain_moves d f t rest) (t, slot d s) (down_few over tag P d f t rest g mirror o once room free c.0.4.1 c.1)
-    (subst AtMostOneTwice (applied_push d (chain_moves d f t rest) (t, slot d s)) (inr (s, e, down_once over tag P d f s (t ∷ rest) e mirror o once room free stands c)))
-
-up_few : {E : Type 0} (over : E → E → Type 0) (tag : E → ℕ) (P : E → Type 0) (d : List (Option E)) (f s : ℕ) (rest : List ℕ) (e : E)
-    → Ordered over tag P d → AllOnce d → f < length d → slot d f ≡ None → slot d s ≡ Some e → IsUpChain over tag d f s rest
-    → Along AtMostOneTwice d (chain_moves d f s rest)
-up_few over tag P d f s [] e o once room free stands c = (inl once, inr (s, e, up_once over tag P d f s [] e o once room free stands c))
-up_few over tag P d f s (t ∷ rest) e o once room free stands c =
-    let g = c.0.4.0 in
-    Along_push AtMostOneTwice d (chain_moves d f t rest) (t, slot d s) (up_few over tag P d f t rest g o once room free c.0.4.1 c.1)
-    (subst AtMostOneTwice (applied_push d (chain_moves d f t rest) (t, slot d s)) (inr (s, e, up_once over tag P d f s (t ∷ rest) e o once room free stands c)))
+    Along_push AtMostOneTwice d (chain_moves d f t rest) (t, slot d s) (moved_few way over tag P d f t rest g mirror o once room free c.0.4.1 c.1)
+    (subst AtMostOneTwice (applied_push d (chain_moves d f t rest) (t, slot d s)) (inr (s, e, moved_once way over tag P d f s (t ∷ rest) e mirror o once room free stands c)))
 
 -- while a turn is made, whose last write erases the one that stands twice,
 pass_few : {E : Type 0} (over : E → E → Type 0) (tag : E → ℕ) (P Q : E → Type 0) (behind before : E → Bool) (cut : ℕ) (d : List (Option E)) (t : Turn)
     → HasSides over tag P Q behind before → Ordered over tag P d → AllOnce d → IsPass over tag behind before cut d t → Along AtMostOneTwice d (turn_moves d t)
 pass_few over tag P Q behind before cut d (Down f s rest) w o once is =
-    Along_push AtMostOneTwice d (chain_moves d f s rest) (s, None) (down_few over tag P d f s rest is.4.0 w.mirror o once is.2 is.3 is.4.1 is.5)
+    Along_push AtMostOneTwice d (chain_moves d f s rest) (s, None) (moved_few Downwards over tag P d f s rest is.4.0 w.mirror o once is.2 is.3 is.4.1 is.5)
     (inl (subst AllOnce (applied_push d (chain_moves d f s rest) (s, None)) ((pass_keeps over tag P Q behind before cut d (Down f s rest) w o is).once once)))
 pass_few over tag P Q behind before cut d (Up f s rest) w o once is =
-    Along_push AtMostOneTwice d (chain_moves d f s rest) (s, None) (up_few over tag P d f s rest is.4.0 o once is.2 is.3 is.4.1 is.5)
+    Along_push AtMostOneTwice d (chain_moves d f s rest) (s, None) (moved_few Upwards over tag P d f s rest is.4.0 w.mirror o once is.2 is.3 is.4.1 is.5)
     (inl (subst AllOnce (applied_push d (chain_moves d f s rest) (s, None)) ((pass_keeps over tag P Q behind before cut d (Up f s rest) w o is).once once)))
 
 -- while turns are made one after the other,
@@ -58,9 +49,9 @@ end_few : {E : Type 0} (over : E → E → Type 0) (tag : E → ℕ) (P : E → 
     → ((x y : E) → over x y → over y x) → Ordered over tag P d → AllOnce d → IsEnd over tag d e front place → Along AtMostOneTwice d front
 end_few over tag P d e front place mirror o once (onto_free l u at floor ceiling a b inside free) = inl once
 end_few over tag P d e front place mirror o once (over_down l u free rest lower floor ceiling a stands meets less inside empty chain) =
-    down_few over tag P d free u rest lower mirror o once inside empty stands chain
+    moved_few Downwards over tag P d free u rest lower mirror o once inside empty stands chain
 end_few over tag P d e front place mirror o once (over_up l u free rest upper floor ceiling a stands meets more inside empty chain) =
-    up_few over tag P d free l rest upper o once inside empty stands chain
+    moved_few Upwards over tag P d free l rest upper mirror o once inside empty stands chain
 
 -- The new entry, which stands nowhere, is written in one slot, and each other one stands in one slot again then.
 pub whole_copies : {E : Type 0} (over : E → E → Type 0) (tag : E → ℕ) (P Q : E → Type 0) (d : List (Option E)) (e : E) (writes : List (ℕ × Option E))

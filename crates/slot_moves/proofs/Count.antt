@@ -1,6 +1,6 @@
 use Rattle.std.proofs.Common.{◌≡◌, ℕ, suc, ◌+◌, ◌<◌, ◌≤◌, List, [], ◌∷◌, length, Option, Some, refl, arith, inl, inr, sym, ◌∙◌, subst, ap, Contains, length-append, map}
 use Rattle.slot_order.specs.Order.{slot, Ordered}
-use Rattle.slot_moves.specs.Moves.{IsDownChain, IsUpChain, chain_moves}
+use Rattle.slot_moves.specs.Moves.{Downwards, Upwards, IsMoveChain, chain_moves}
 use Rattle.slot_order.specs.Chains.{IsChain, BoundsMemberChains}
 use Rattle.std.proofs.lemmas.List.{length-map}
 use Rattle.slot_order.proofs.Lists.{contains_head, contains_tail, contains_cases, contains_none, in_map}
@@ -17,7 +17,7 @@ pub record Members {E : Type 0} (over : E → E → Type 0) (tag : E → ℕ) (P
   pub many : length rest ≡ n
 
 pub chain_members : {E : Type 0} (over : E → E → Type 0) (tag : E → ℕ) (P : E → Type 0) (d : List (Option E)) (f s : ℕ) (rest : List ℕ) (e : E)
-    → Ordered over tag P d → slot d s ≡ Some e → IsDownChain over tag d f s rest → Members over tag P (length rest) e
+    → Ordered over tag P d → slot d s ≡ Some e → IsMoveChain Downwards over tag d f s rest → Members over tag P (length rest) e
 chain_members over tag P d f s [] e o stands c = record {
   rest = [];
   chain = tt;
@@ -37,7 +37,7 @@ chain_members over tag P d f s (t ∷ rest) e o stands c =
 
 -- a chain below a new entry e: its moves and the write of e are at most m
 pub chain_bound : {E : Type 0} (over : E → E → Type 0) (tag : E → ℕ) (P Q : E → Type 0) (d : List (Option E)) (f s m : ℕ) (rest : List ℕ) (e x : E)
-    → Ordered over tag P d → slot d s ≡ Some x → IsDownChain over tag d f s rest → over e x → tag x < tag e
+    → Ordered over tag P d → slot d s ≡ Some x → IsMoveChain Downwards over tag d f s rest → over e x → tag x < tag e
     → ((g : E) → P g → Q g) → Q e → BoundsMemberChains over tag Q m → length (chain_moves d f s rest) + 1 ≤ m
 chain_bound over tag P Q d f s m rest e x o stands c v less up here bound =
     let h = chain_members over tag P d f s rest x o stands c in
@@ -48,7 +48,7 @@ chain_bound over tag P Q d f s m rest e x o stands c v less up here bound =
 
 -- an up chain, with what stands below it in the chain of entries
 pub up_chain_bound : {E : Type 0} (over : E → E → Type 0) (tag : E → ℕ) (P Q : E → Type 0) (d : List (Option E)) (f s m : ℕ) (rest : List ℕ) (x : E) (acc : List E)
-    → ((x y : E) → over x y → over y x) → Ordered over tag P d → slot d s ≡ Some x → IsUpChain over tag d f s rest → IsChain over tag (x ∷ acc)
+    → ((x y : E) → over x y → over y x) → Ordered over tag P d → slot d s ≡ Some x → IsMoveChain Upwards over tag d f s rest → IsChain over tag (x ∷ acc)
     → ((y : E) → Contains (x ∷ acc) y → Q y) → ((y : E) → P y → Q y) → BoundsMemberChains over tag Q m → length rest + length (x ∷ acc) ≤ m
 up_chain_bound over tag P Q d f s m [] x acc mirror o stands c chain all up bound = let b = bound (x ∷ acc) all chain in omega arith
 up_chain_bound over tag P Q d f s m (t ∷ rest) x acc mirror o stands c chain all up bound =

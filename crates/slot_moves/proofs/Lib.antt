@@ -1,10 +1,9 @@
 pub mod Between
+pub mod Ways
 pub mod Chains
-pub mod UpChains
 pub mod Sets
 pub mod Turns
 pub mod Count
-pub mod UpTurns
 pub mod OnTheWay
 pub mod End
 pub mod Once

@@ -1,12 +1,12 @@
 -- After an insertion each entry stands in one slot again.
-use Rattle.std.proofs.Common.{◌≡◌, ◌≢◌, ℕ, ◌<◌, Option, None, Some, List, [], ◌∷◌, length, arith, inl, inr, ◌⊎◌, sym, ◌∙◌, subst, ap, set}
+use Rattle.std.proofs.Common.{◌≡◌, ◌≢◌, ℕ, ◌<◌, Option, None, Some, List, [], ◌∷◌, length, inl, inr, ◌⊎◌, sym, ◌∙◌, subst, ap, set}
 use Rattle.std.proofs.lemmas.Bool.{cases_eq}
 use Rattle.slot_order.specs.Order.{slot, Ordered}
 use Rattle.slot_order.specs.Chains.{applied}
-use Rattle.slot_moves.specs.Moves.{chain_moves, IsDownChain, IsUpChain}
+use Rattle.slot_moves.specs.Moves.{Way, Downwards, Upwards, IsBefore, IsMoveChain, chain_moves}
 use Rattle.slot_order.proofs.Writes.{slot_same, slot_other, slot_inside, put_here, put_away}
 use Rattle.slot_moves.proofs.Chains.{applied_push, chain_keeps}
-use Rattle.slot_moves.proofs.UpChains.{up_chain_keeps}
+use Rattle.slot_moves.proofs.Ways.{no_later, apart}
 use Rattle.slot_moves.proofs.End.{IsEnd, onto_free, over_down, over_up}
 
 -- each entry that stands does so in one slot
@@ -92,54 +92,36 @@ begin {E} d s f e once stands free inside = record {
     n : s ≢ f
     n k = let z : None ≡ Some e = sym free ∙ (ap (slot d) (sym k) ∙ stands) in cc
 
-differ : {E : Type 0} (tag : E → ℕ) (a b : E) → tag a < tag b → b ≢ a
-differ tag a b l k = let z : tag b ≡ tag a = ap tag k in omega arith
-
-differ' : {E : Type 0} (tag : E → ℕ) (a b : E) → tag a < tag b → a ≢ b
-differ' tag a b l k = let z : tag a ≡ tag b = ap tag k in omega arith
-
-pub down_once : {E : Type 0} (over : E → E → Type 0) (tag : E → ℕ) (P : E → Type 0) (d : List (Option E)) (f s : ℕ) (rest : List ℕ) (e : E)
-    → ((x y : E) → over x y → over y x) → Ordered over tag P d → AllOnce d → f < length d → slot d f ≡ None → slot d s ≡ Some e → IsDownChain over tag d f s rest
+pub moved_once : {E : Type 0} (way : Way) (over : E → E → Type 0) (tag : E → ℕ) (P : E → Type 0) (d : List (Option E)) (f s : ℕ) (rest : List ℕ) (e : E)
+    → ((x y : E) → over x y → over y x) → Ordered over tag P d → AllOnce d → f < length d → slot d f ≡ None → slot d s ≡ Some e → IsMoveChain way over tag d f s rest
     → OneTwice (applied d (chain_moves d f s rest)) s e
-down_once over tag P d f s [] e mirror o once room free stands c =
+moved_once way over tag P d f s [] e mirror o once room free stands c =
     subst (λ z. OneTwice (set d f z) s e) (sym stands) (begin d s f e once stands free room)
-down_once over tag P d f s (t ∷ rest) e mirror o once room free stands c =
+moved_once way over tag P d f s (t ∷ rest) e mirror o once room free stands c =
     let a = c.0 in let g = a.4.0 in
     let same : a.0 ≡ e = let k : Some a.0 ≡ Some e = sym a.1 ∙ stands in cc in
-    let lt : tag g < tag e = subst (λ z. tag g < tag z) same a.4.3 in
-    let h = down_once over tag P d f t rest g mirror o once room free a.4.1 c.1 in
-    let m = (chain_keeps over tag P d f t rest g mirror o room free a.4.1 c.1).1 in
+    let further : IsBefore way (tag g) (tag e) = subst (λ z. IsBefore way (tag g) (tag z)) same a.4.3 in
+    let h = moved_once way over tag P d f t rest g mirror o once room free a.4.1 c.1 in
+    let m = (chain_keeps way over tag P d f t rest g mirror o room free a.4.1 c.1).1 in
     let b = applied d (chain_moves d f t rest) in
-    let p = pass b s t e g h (m.before s (let q = a.2 in omega arith) ∙ stands) (differ tag g e lt) (λ k. let q = a.2 in omega arith) in
-    subst (λ z. OneTwice z s e) (ap (λ x. set b t x) (sym stands) ∙ sym (applied_push d (chain_moves d f t rest) (t, slot d s))) p
-
-pub up_once : {E : Type 0} (over : E → E → Type 0) (tag : E → ℕ) (P : E → Type 0) (d : List (Option E)) (f s : ℕ) (rest : List ℕ) (e : E)
-    → Ordered over tag P d → AllOnce d → f < length d → slot d f ≡ None → slot d s ≡ Some e → IsUpChain over tag d f s rest
-    → OneTwice (applied d (chain_moves d f s rest)) s e
-up_once over tag P d f s [] e o once room free stands c =
-    subst (λ z. OneTwice (set d f z) s e) (sym stands) (begin d s f e once stands free room)
-up_once over tag P d f s (t ∷ rest) e o once room free stands c =
-    let a = c.0 in let g = a.4.0 in
-    let same : a.0 ≡ e = let k : Some a.0 ≡ Some e = sym a.1 ∙ stands in cc in
-    let lt : tag e < tag g = subst (λ z. tag z < tag g) same a.4.3 in
-    let h = up_once over tag P d f t rest g o once room free a.4.1 c.1 in
-    let m = (up_chain_keeps over tag P d f t rest g o room free a.4.1 c.1).1 in
-    let b = applied d (chain_moves d f t rest) in
-    let p = pass b s t e g h (m.before s (let q = a.2 in omega arith) ∙ stands) (differ' tag e g lt) (λ k. let q = a.2 in omega arith) in
+    let p = pass b s t e g h (m.before s (no_later way s t a.2) ∙ stands) (λ k. apart way _ _ further (ap tag (sym k))) (apart way s t a.2) in
     subst (λ z. OneTwice z s e) (ap (λ x. set b t x) (sym stands) ∙ sym (applied_push d (chain_moves d f t rest) (t, slot d s))) p
 
 -- the chain moved, and its first slot was erased
-pub down_clears : {E : Type 0} (over : E → E → Type 0) (tag : E → ℕ) (P : E → Type 0) (d : List (Option E)) (f s : ℕ) (rest : List ℕ) (e : E)
-    → ((x y : E) → over x y → over y x) → Ordered over tag P d → AllOnce d → f < length d → slot d f ≡ None → slot d s ≡ Some e → IsDownChain over tag d f s rest
+pub moved_clears : {E : Type 0} (way : Way) (over : E → E → Type 0) (tag : E → ℕ) (P : E → Type 0) (d : List (Option E)) (f s : ℕ) (rest : List ℕ) (e : E)
+    → ((x y : E) → over x y → over y x) → Ordered over tag P d → AllOnce d → f < length d → slot d f ≡ None → slot d s ≡ Some e → IsMoveChain way over tag d f s rest
     → AllOnce (set (applied d (chain_moves d f s rest)) s None)
-down_clears over tag P d f s rest e mirror o once room free stands c =
-    settle (applied d (chain_moves d f s rest)) s e None (down_once over tag P d f s rest e mirror o once room free stands c) (λ j a k x. let z : None ≡ Some a = k in cc)
+moved_clears way over tag P d f s rest e mirror o once room free stands c =
+    settle (applied d (chain_moves d f s rest)) s e None (moved_once way over tag P d f s rest e mirror o once room free stands c) (λ j a k x. let z : None ≡ Some a = k in cc)
 
-pub up_clears : {E : Type 0} (over : E → E → Type 0) (tag : E → ℕ) (P : E → Type 0) (d : List (Option E)) (f s : ℕ) (rest : List ℕ) (e : E)
-    → Ordered over tag P d → AllOnce d → f < length d → slot d f ≡ None → slot d s ≡ Some e → IsUpChain over tag d f s rest
-    → AllOnce (set (applied d (chain_moves d f s rest)) s None)
-up_clears over tag P d f s rest e o once room free stands c =
-    settle (applied d (chain_moves d f s rest)) s e None (up_once over tag P d f s rest e o once room free stands c) (λ j a k x. let z : None ≡ Some a = k in cc)
+-- and a new entry, which stands nowhere, was put there in its place
+over_once : {E : Type 0} (way : Way) (over : E → E → Type 0) (tag : E → ℕ) (P : E → Type 0) (d : List (Option E)) (f s : ℕ) (rest : List ℕ) (e x : E)
+    → ((x y : E) → over x y → over y x) → Ordered over tag P d → AllOnce d → (P e → ⊥) → f < length d → slot d f ≡ None → slot d s ≡ Some x → IsMoveChain way over tag d f s rest
+    → AllOnce (set (applied d (chain_moves d f s rest)) s (Some e))
+over_once way over tag P d f s rest e x mirror o once new room free stands c =
+    let k = (chain_keeps way over tag P d f s rest x mirror o room free stands c).1 in
+    settle (applied d (chain_moves d f s rest)) s x (Some e) (moved_once way over tag P d f s rest x mirror o once room free stands c)
+    (λ j y z w. let q : e ≡ y = (let v : Some e ≡ Some y = z in cc) in new (subst P (sym q) (k.ordered.within j y w)))
 
 -- from here on the new entry e is not of P
 pub end_once : {E : Type 0} (over : E → E → Type 0) (tag : E → ℕ) (P : E → Type 0) (d : List (Option E)) (e : E) (front : List (ℕ × Option E)) (place : ℕ)
@@ -160,11 +142,7 @@ end_once {E} over tag P d e front place mirror o once new (onto_free l u at floo
 
         no_two : (j : ℕ) (x : E) → j ≢ place → e ≡ x → slot (set d place (Some e)) j ≡ Some x → ⊥
         no_two j x m k s = new (subst P (sym k) (o.within j x (sym (slot_other d place (Some e) j m) ∙ s)))
-end_once {E} over tag P d e front place mirror o once new (over_down l u free rest lower floor ceiling a stands meets less inside empty chain) =
-    let k = (chain_keeps over tag P d free u rest lower mirror o inside empty stands chain).1 in
-    settle (applied d (chain_moves d free u rest)) u lower (Some e) (down_once over tag P d free u rest lower mirror o once inside empty stands chain)
-    (λ j x y z. let q : e ≡ x = (let w : Some e ≡ Some x = y in cc) in new (subst P (sym q) (k.ordered.within j x z)))
-end_once {E} over tag P d e front place mirror o once new (over_up l u free rest upper floor ceiling a stands meets more inside empty chain) =
-    let k = (up_chain_keeps over tag P d free l rest upper o inside empty stands chain).1 in
-    settle (applied d (chain_moves d free l rest)) l upper (Some e) (up_once over tag P d free l rest upper o once inside empty stands chain)
-    (λ j x y z. let q : e ≡ x = (let w : Some e ≡ Some x = y in cc) in new (subst P (sym q) (k.ordered.within j x z)))
+end_once over tag P d e front place mirror o once new (over_down l u free rest lower floor ceiling a stands meets less inside empty chain) =
+    over_once Downwards over tag P d free u rest e lower mirror o once new inside empty stands chain
+end_once over tag P d e front place mirror o once new (over_up l u free rest upper floor ceiling a stands meets more inside empty chain) =
+    over_once Upwards over tag P d free l rest e upper mirror o once new inside empty stands chain

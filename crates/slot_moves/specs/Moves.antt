@@ -3,19 +3,35 @@ use Rattle.std.specs.Prelude.{◌≡◌, ℕ, ◌<◌, ◌≤◌, List, [], ◌�
 use Rattle.slot_order.specs.Order.{slot}
 use Rattle.slot_order.specs.Chains.{applied}
 
--- no lower entry that overlaps this one stands below a place
-abbrev pub IsClearBelow : {E : Type 0} → (E → E → Type 0) → (E → ℕ) → List (Option E) → E → ℕ → Type 0
-IsClearBelow {E} over tag slots entry place =
-    (at : ℕ) (other : E) → at < place → slot slots at ≡ Some other → over entry other → tag entry ≤ tag other
+-- which way a chain goes: down, to greater slots and lower entries, or up, to lesser slots and higher entries
+pub data Way : Type 0 where
+  Downwards : Way
+  Upwards : Way
 
--- from a slot to a free one: each next is the least slot of a lower overlapping entry, and the last has none below the free one
-abbrev pub IsDownChain : {E : Type 0} → (E → E → Type 0) → (E → ℕ) → List (Option E) → ℕ → ℕ → List ℕ → Type 0
-IsDownChain {E} over tag slots free first [] =
-    (entry : E) × (slot slots first ≡ Some entry) × (first < free) × IsClearBelow over tag slots entry free
-IsDownChain {E} over tag slots free first (next ∷ rest) =
-    ((entry : E) × (slot slots first ≡ Some entry) × (first < next) × IsClearBelow over tag slots entry next
-    × ((lower : E) × (slot slots next ≡ Some lower) × over entry lower × (tag lower < tag entry)))
-    × IsDownChain over tag slots free next rest
+-- Of two slots the first comes before the second on this way, or no later. Priorities go the other way round: of two entries
+-- that overlap, the one that must stand further on has the priority that comes before.
+abbrev pub IsBefore : Way → ℕ → ℕ → Type 0
+IsBefore Downwards first second = first < second
+IsBefore Upwards first second = second < first
+
+abbrev pub IsNoLater : Way → ℕ → ℕ → Type 0
+IsNoLater Downwards first second = first ≤ second
+IsNoLater Upwards first second = second ≤ first
+
+-- no entry that overlaps this one and must stand further on stands before a place
+abbrev pub IsClear : {E : Type 0} → Way → (E → E → Type 0) → (E → ℕ) → List (Option E) → E → ℕ → Type 0
+IsClear {E} way over tag slots entry place =
+    (at : ℕ) (other : E) → IsBefore way at place → slot slots at ≡ Some other → over entry other → IsNoLater way (tag entry) (tag other)
+
+-- from a slot to a free one further on: each next is the first slot on the way of an overlapping entry that must stand
+-- further on, and the last has none before the free one
+abbrev pub IsMoveChain : {E : Type 0} → Way → (E → E → Type 0) → (E → ℕ) → List (Option E) → ℕ → ℕ → List ℕ → Type 0
+IsMoveChain {E} way over tag slots free first [] =
+    (entry : E) × (slot slots first ≡ Some entry) × IsBefore way first free × IsClear way over tag slots entry free
+IsMoveChain {E} way over tag slots free first (next ∷ rest) =
+    ((entry : E) × (slot slots first ≡ Some entry) × IsBefore way first next × IsClear way over tag slots entry next
+    × ((other : E) × (slot slots next ≡ Some other) × over entry other × IsBefore way (tag other) (tag entry)))
+    × IsMoveChain way over tag slots free next rest
 
 -- the last member goes to the free slot, then each earlier one over the slot of the one after it
 abbrev pub chain_moves : {E : Type 0} → List (Option E) → ℕ → ℕ → List ℕ → List (ℕ × Option E)
@@ -31,20 +47,6 @@ pub record IsFloor {E : Type 0} (over : E → E → Type 0) (tag : E → ℕ) (s
 pub record IsCeiling {E : Type 0} (over : E → E → Type 0) (tag : E → ℕ) (slots : List (Option E)) (entry : E) (place : ℕ) : Type 0 where
   pub over_it : (at : ℕ) (other : E) → slot slots at ≡ Some other → over entry other → tag other < tag entry → place ≤ at
   pub met : (place ≡ length slots) ⊎ ((lower : E) × (slot slots place ≡ Some lower) × over entry lower × (tag lower < tag entry))
-
--- no higher entry that overlaps this one stands above a place
-abbrev pub IsClearAbove : {E : Type 0} → (E → E → Type 0) → (E → ℕ) → List (Option E) → E → ℕ → Type 0
-IsClearAbove {E} over tag slots entry place =
-    (at : ℕ) (other : E) → place < at → slot slots at ≡ Some other → over entry other → tag other ≤ tag entry
-
--- the mirror of a down chain, from a slot to a lesser free one
-abbrev pub IsUpChain : {E : Type 0} → (E → E → Type 0) → (E → ℕ) → List (Option E) → ℕ → ℕ → List ℕ → Type 0
-IsUpChain {E} over tag slots free first [] =
-    (entry : E) × (slot slots first ≡ Some entry) × (free < first) × IsClearAbove over tag slots entry free
-IsUpChain {E} over tag slots free first (next ∷ rest) =
-    ((entry : E) × (slot slots first ≡ Some entry) × (next < first) × IsClearAbove over tag slots entry next
-    × ((upper : E) × (slot slots next ≡ Some upper) × over entry upper × (tag entry < tag upper)))
-    × IsUpChain over tag slots free next rest
 
 -- a turn: which way, the free slot, the first slot of the chain and the slots after it
 pub data Turn : Type 0 where

@@ -9,7 +9,8 @@
 //!
 //! # What it cost
 //! Entries and priorities are parameters, so each crate above instantiates the lemmas at its own entries; down chains and
-//! up chains are mirrors whose proofs stand apart.
+//! up chains are one, with the way as an argument (`Way`): what comes before what on it is all that their proofs ask
+//! (`proofs/Ways`). Turns past a boundary are of two kinds, since what stands before it isn't what stands behind.
 //!
 //! # What isn't here
 //! Which chain is taken, and where a new entry goes: that is `placement`'s, and `move_planner` plans it. No code.

@@ -2,9 +2,9 @@
 use Rattle.std.proofs.Common.{◌≡◌, ℕ, suc, ◌+◌, ◌*◌, ◌<◌, Bool, Option, None, Some, List, [], ◌∷◌, ◌++◌, length, arith, set, sym, ◌∙◌, subst, ap, le_refl, append_assoc}
 use Rattle.slot_order.specs.Order.{slot, Ordered}
 use Rattle.slot_order.specs.Chains.{applied}
-use Rattle.slot_moves.specs.Moves.{chain_moves, IsDownChain, IsUpChain, Turn, Down, Up, turn_moves, turns_moves}
+use Rattle.slot_moves.specs.Moves.{Way, Downwards, Upwards, IsBefore, IsMoveChain, chain_moves, Turn, Down, Up, turn_moves, turns_moves}
 use Rattle.slot_moves.proofs.Chains.{chain_keeps}
-use Rattle.slot_moves.proofs.UpChains.{up_chain_keeps}
+use Rattle.slot_moves.proofs.Ways.{no_later_self, apart}
 use Rattle.slot_moves.proofs.End.{IsEnd, onto_free, over_down, over_up}
 use Rattle.slot_moves.proofs.Passes.{AllPassed, passes_keep}
 use Rattle.slot_moves.proofs.Passing.{IsPass, ArePasses, HasSides, pass_keeps}
@@ -46,41 +46,21 @@ onto_other : {E : Type 0} (tag : E → ℕ) (Cost : Option E → E → ℕ) (d :
 onto_other tag Cost d at g e costs stands other = let h : Cost (slot d at) e ≡ 3 = ap (λ held. Cost held e) stands ∙ costs.other g e other in omega arith
 
 -- The members of a chain: the last goes to a free slot, and each other over the next one, which is of another tag.
-pub chain_exact : {E : Type 0} (over : E → E → Type 0) (tag : E → ℕ) (Cost : Option E → E → ℕ) (costs : IsPutCost tag Cost) (P : E → Type 0) (d : List (Option E)) (f s : ℕ) (rest : List ℕ) (e : E)
-    → ((x y : E) → over x y → over y x) → Ordered over tag P d → f < length d → slot d f ≡ None → slot d s ≡ Some e → IsDownChain over tag d f s rest
+pub chain_exact : {E : Type 0} (way : Way) (over : E → E → Type 0) (tag : E → ℕ) (Cost : Option E → E → ℕ) (costs : IsPutCost tag Cost) (P : E → Type 0) (d : List (Option E)) (f s : ℕ) (rest : List ℕ) (e : E)
+    → ((x y : E) → over x y → over y x) → Ordered over tag P d → f < length d → slot d f ≡ None → slot d s ≡ Some e → IsMoveChain way over tag d f s rest
     → exact_cost Cost d (chain_moves d f s rest) + 1 ≡ 3 * puts (chain_moves d f s rest)
-chain_exact over tag Cost costs P d f s [] e mirror o room free stands c =
+chain_exact way over tag Cost costs P d f s [] e mirror o room free stands c =
     subst (λ held. exact_cost Cost d ((f, held) ∷ []) + 1 ≡ 3 * puts ((f, held) ∷ [])) (sym stands) (let h = onto_none tag Cost d f e costs free in omega arith)
-chain_exact over tag Cost costs P d f s (t ∷ rest) e mirror o room free stands c =
+chain_exact way over tag Cost costs P d f s (t ∷ rest) e mirror o room free stands c =
     let a = c.0 in
     let g = a.4.0 in
     let same : a.0 ≡ e = let k : Some a.0 ≡ Some e = sym a.1 ∙ stands in cc in
-    let less : tag g < tag e = subst (λ z. tag g < tag z) same a.4.3 in
+    let further : IsBefore way (tag g) (tag e) = subst (λ z. IsBefore way (tag g) (tag z)) same a.4.3 in
     let front = chain_moves d f t rest in
-    let h = chain_exact over tag Cost costs P d f t rest g mirror o room free a.4.1 c.1 in
-    let m = (chain_keeps over tag P d f t rest g mirror o room free a.4.1 c.1).1 in
-    let still : slot (applied d front) t ≡ Some g = m.before t (le_refl t) ∙ a.4.1 in
-    let last = onto_other tag Cost (applied d front) t g e costs still (λ is. omega arith) in
-    let all = exact_append Cost d front ((t, Some e) ∷ []) in
-    let count = puts_append front ((t, Some e) ∷ []) in
-    subst (λ held. exact_cost Cost d (front ++ (t, held) ∷ []) + 1 ≡ 3 * puts (front ++ (t, held) ∷ [])) (sym stands) (omega arith)
-
--- and its mirror
-pub up_chain_exact : {E : Type 0} (over : E → E → Type 0) (tag : E → ℕ) (Cost : Option E → E → ℕ) (costs : IsPutCost tag Cost) (P : E → Type 0) (d : List (Option E)) (f s : ℕ) (rest : List ℕ) (e : E)
-    → Ordered over tag P d → f < length d → slot d f ≡ None → slot d s ≡ Some e → IsUpChain over tag d f s rest
-    → exact_cost Cost d (chain_moves d f s rest) + 1 ≡ 3 * puts (chain_moves d f s rest)
-up_chain_exact over tag Cost costs P d f s [] e o room free stands c =
-    subst (λ held. exact_cost Cost d ((f, held) ∷ []) + 1 ≡ 3 * puts ((f, held) ∷ [])) (sym stands) (let h = onto_none tag Cost d f e costs free in omega arith)
-up_chain_exact over tag Cost costs P d f s (t ∷ rest) e o room free stands c =
-    let a = c.0 in
-    let g = a.4.0 in
-    let same : a.0 ≡ e = let k : Some a.0 ≡ Some e = sym a.1 ∙ stands in cc in
-    let more : tag e < tag g = subst (λ z. tag z < tag g) same a.4.3 in
-    let front = chain_moves d f t rest in
-    let h = up_chain_exact over tag Cost costs P d f t rest g o room free a.4.1 c.1 in
-    let m = (up_chain_keeps over tag P d f t rest g o room free a.4.1 c.1).1 in
-    let still : slot (applied d front) t ≡ Some g = m.before t (le_refl t) ∙ a.4.1 in
-    let last = onto_other tag Cost (applied d front) t g e costs still (λ is. omega arith) in
+    let h = chain_exact way over tag Cost costs P d f t rest g mirror o room free a.4.1 c.1 in
+    let m = (chain_keeps way over tag P d f t rest g mirror o room free a.4.1 c.1).1 in
+    let still : slot (applied d front) t ≡ Some g = m.before t (no_later_self way t) ∙ a.4.1 in
+    let last = onto_other tag Cost (applied d front) t g e costs still (apart way _ _ further) in
     let all = exact_append Cost d front ((t, Some e) ∷ []) in
     let count = puts_append front ((t, Some e) ∷ []) in
     subst (λ held. exact_cost Cost d (front ++ (t, held) ∷ []) + 1 ≡ 3 * puts (front ++ (t, held) ∷ [])) (sym stands) (omega arith)
@@ -89,11 +69,11 @@ up_chain_exact over tag Cost costs P d f s (t ∷ rest) e o room free stands c =
 pass_exact : {E : Type 0} (over : E → E → Type 0) (tag : E → ℕ) (Cost : Option E → E → ℕ) (costs : IsPutCost tag Cost) (P Q : E → Type 0) (behind before : E → Bool) (cut : ℕ) (d : List (Option E)) (turn : Turn) → HasSides over tag P Q behind before
     → Ordered over tag P d → IsPass over tag behind before cut d turn → exact_cost Cost d (turn_moves d turn) ≡ 3 * puts (turn_moves d turn)
 pass_exact over tag Cost costs P Q behind before cut d (Down free first rest) sides o is =
-    let h = chain_exact over tag Cost costs P d free first rest is.4.0 sides.mirror o is.2 is.3 is.4.1 is.5 in
+    let h = chain_exact Downwards over tag Cost costs P d free first rest is.4.0 sides.mirror o is.2 is.3 is.4.1 is.5 in
     let a = exact_append Cost d (chain_moves d free first rest) ((first, None) ∷ []) in
     let b = puts_append (chain_moves d free first rest) ((first, None) ∷ []) in omega arith
 pass_exact over tag Cost costs P Q behind before cut d (Up free first rest) sides o is =
-    let h = up_chain_exact over tag Cost costs P d free first rest is.4.0 o is.2 is.3 is.4.1 is.5 in
+    let h = chain_exact Upwards over tag Cost costs P d free first rest is.4.0 sides.mirror o is.2 is.3 is.4.1 is.5 in
     let a = exact_append Cost d (chain_moves d free first rest) ((first, None) ∷ []) in
     let b = puts_append (chain_moves d free first rest) ((first, None) ∷ []) in omega arith
 
@@ -113,15 +93,15 @@ end_exact : {E : Type 0} (over : E → E → Type 0) (tag : E → ℕ) (Cost : O
     → Ordered over tag P d → IsEnd over tag d e front place → exact_cost Cost d (front ++ (place, Some e) ∷ []) + 1 ≡ 3 * puts (front ++ (place, Some e) ∷ [])
 end_exact over tag Cost costs P d e front place mirror o (onto_free l u at floor ceiling a b inside free) = let h = onto_none tag Cost d place e costs free in omega arith
 end_exact over tag Cost costs P d e front place mirror o (over_down l u free rest lower floor ceiling a stands meets less inside empty chain) =
-    let h = chain_exact over tag Cost costs P d free u rest lower mirror o inside empty stands chain in
-    let m = (chain_keeps over tag P d free u rest lower mirror o inside empty stands chain).1 in
+    let h = chain_exact Downwards over tag Cost costs P d free u rest lower mirror o inside empty stands chain in
+    let m = (chain_keeps Downwards over tag P d free u rest lower mirror o inside empty stands chain).1 in
     let still : slot (applied d (chain_moves d free u rest)) u ≡ Some lower = m.before u (le_refl u) ∙ stands in
     let last = onto_other tag Cost (applied d (chain_moves d free u rest)) u lower e costs still (λ is. omega arith) in
     let c = exact_append Cost d (chain_moves d free u rest) ((u, Some e) ∷ []) in
     let b = puts_append (chain_moves d free u rest) ((u, Some e) ∷ []) in omega arith
 end_exact over tag Cost costs P d e front place mirror o (over_up l u free rest upper floor ceiling a stands meets more inside empty chain) =
-    let h = up_chain_exact over tag Cost costs P d free l rest upper o inside empty stands chain in
-    let m = (up_chain_keeps over tag P d free l rest upper o inside empty stands chain).1 in
+    let h = chain_exact Upwards over tag Cost costs P d free l rest upper mirror o inside empty stands chain in
+    let m = (chain_keeps Upwards over tag P d free l rest upper mirror o inside empty stands chain).1 in
     let still : slot (applied d (chain_moves d free l rest)) l ≡ Some upper = m.before l (le_refl l) ∙ stands in
     let last = onto_other tag Cost (applied d (chain_moves d free l rest)) l upper e costs still (λ is. omega arith) in
     let c = exact_append Cost d (chain_moves d free l rest) ((l, Some e) ∷ []) in
