@@ -1,8 +1,9 @@
 -- What a walk over the slots has found, as the searches of an arrangement say it.
-use Rattle.std.proofs.Common.{◌≡◌, ℕ, zero, suc, ◌+◌, ◌<◌, ◌≤◌, Bool, true, false, None, Some, Option, ◌⊎◌, find, filter, reverse, arith, inl, inr, ◌∙◌, ap, refl}
+use Rattle.std.proofs.Common.{◌≡◌, ℕ, zero, suc, ◌+◌, ◌<◌, ◌≤◌, Bool, true, false, None, Some, Option, find, filter, reverse, arith, inl, inr, ◌∙◌, ap, refl}
 use Rattle.std.proofs.lemmas.Bool.{cases_Bool, cases_eq, cases_lt, cond-true, cond-false, lt-ltb, le-ltb}
 use Rattle.std.specs.List.{range_with_len}
 use Rattle.std.specs.Int.{abs_diff}
+use Rattle.word_tree.specs.Marks.{IsNoFarther}
 use Rattle.slot_pool.specs.Arrangement.{nearest, nearer}
 use Rattle.slot_pool.proofs.Places.{IsFirst, find_range, find_range_none}
 use Rattle.slot_pool.proofs.Scan.{IsLast, find_back, find_back_none, nearest_passes}
@@ -57,10 +58,7 @@ found_none_back test from size all = go (find test (reverse (range_with_len from
         let o = find_back test from size other e in
         absurd (let k : test other ≡ false = all other o.low o.inside in let w = o.passing in cc)
 
--- of two places the first is no farther, and the lower one of two at one distance
-abbrev pub IsNoFarther : ℕ → ℕ → ℕ → Type 0
-IsNoFarther mid a b = (abs_diff a mid < abs_diff b mid) ⊎ ((abs_diff a mid ≡ abs_diff b mid) × (a ≤ b))
-
+-- the place that passes nearest to another one
 pub record IsNearest (mid : ℕ) (test : ℕ → Bool) (from size place : ℕ) : Type 0 where
   pub low : from ≤ place
   pub inside : place < from + size

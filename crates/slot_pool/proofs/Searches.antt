@@ -1,11 +1,10 @@
 -- What each search of an arrangement answers, from what its walk has seen.
-use Rattle.std.proofs.Common.{◌≡◌, ℕ, ◌<◌, ◌≤◌, ◌==◌, ◌&&◌, Bool, true, false, None, Some, length, arith, inl, inr}
-use Rattle.std.specs.Prelude.{nat_lt, nat_le}
-use Rattle.std.proofs.lemmas.Bool.{cases_lt, and_parts, and_from, lt-ltb, ltb-true, false_from_ne_true}
-use Rattle.std.specs.Int.{abs_diff}
+use Rattle.std.proofs.Common.{◌≡◌, ℕ, ◌<◌, ◌==◌, ◌&&◌, Bool, true, false, None, Some, length, arith}
+use Rattle.std.specs.Prelude.{nat_lt}
+use Rattle.std.proofs.lemmas.Bool.{and_parts, and_from, lt-ltb, ltb-true, false_from_ne_true}
 use Rattle.slot_order.specs.Order.{slot}
-use Rattle.slot_pool.specs.Arrangement.{Slots, passes, is_free, is_free_within, home_of, nearest_free, next_free_above, last_free_below}
-use Rattle.slot_pool.proofs.Finds.{found_first, found_none, found_last, found_none_back, found_nearest, nearest_none}
+use Rattle.slot_pool.specs.Arrangement.{Slots, passes, is_free, home_of, next_free_above, last_free_below}
+use Rattle.slot_pool.proofs.Finds.{found_first, found_none, found_last, found_none_back}
 
 -- a place that passes isn't one that doesn't
 never : (test : Bool) (other : Bool) → (test ≡ true → other ≡ false) → test && other ≡ false
@@ -49,31 +48,3 @@ pub last_none : (slots : Slots) (place : ℕ) → ((k : ℕ) → k < place → i
 last_none slots place none =
     found_none_back (λ other. nat_lt other place && is_free slots other) 0 (length slots)
     (λ j a b. never (nat_lt j place) (is_free slots j) (λ k. none j (ltb-true j place k)))
-
--- nothing nearer is empty, nor is what is lower at the same distance
-pub nearest_found : (slots : Slots) (from to mid at distance : ℕ) → to ≤ length slots → is_free_within slots from to at ≡ true → abs_diff at mid ≡ distance
-    → ((k : ℕ) → k < length slots → abs_diff k mid < distance → is_free_within slots from to k ≡ false)
-    → ((k : ℕ) → k < length slots → abs_diff k mid ≡ distance → k < at → is_free_within slots from to k ≡ false)
-    → nearest_free slots from to mid ≡ Some at
-nearest_found slots from to mid at distance room free away none tie =
-    let p = and_parts (nat_le from at && nat_lt at to) (is_free slots at) free in
-    let q = and_parts (nat_le from at) (nat_lt at to) p.0 in
-    let before : at < to = ltb-true at to q.1 in
-    found_nearest mid (λ place. is_free_within slots from to place) 0 (length slots) at record {
-      low = omega arith;
-      inside = omega arith;
-      passing = free;
-      least = λ j a b hit. elim (cases_lt (abs_diff at mid) (abs_diff j mid)) [
-        | inl farther ↦ inl farther
-        | inr near ↦ elim (cases_lt (abs_diff j mid) distance) [
-          | inl nearer ↦ absurd (let k : is_free_within slots from to j ≡ false = none j (omega arith) nearer in cc)
-          | inr same ↦ elim (cases_lt j at) [
-            | inl lower ↦ absurd (let k : is_free_within slots from to j ≡ false = tie j (omega arith) (omega arith) lower in cc)
-            | inr above ↦ inr (omega arith, above)
-          ]
-        ]
-      ];
-    }
-
-pub nearest_nothing : (slots : Slots) (from to mid : ℕ) → ((k : ℕ) → k < length slots → is_free_within slots from to k ≡ false) → nearest_free slots from to mid ≡ None
-nearest_nothing slots from to mid none = nearest_none mid (λ place. is_free_within slots from to place) 0 (length slots) (λ j a b. none j (omega arith))

@@ -4,9 +4,9 @@
 //! id may stand in several slots, as it does while an entry moves. Searches for a free slot look
 //! outwards from where it is wanted. No call but `new` and `try_copy` takes memory.
 //!
-//! Beside the slots stand words of bits, one bit a slot that is 1 where the slot is empty, and the
-//! number of empty slots. Most slots are taken where a free one is far, so a search passes
-//! 64 taken slots at a step. `Marks` is a row of such bits by itself, for whoever marks slots.
+//! Beside the slots stands a tree of words with a mark for each slot that is empty (`word_tree`), so a
+//! search for one takes a step or two for each level, however far it is. `Marks` is a flat row of marks
+//! for whoever marks slots, of which a search passes 64 at a step.
 //!
 //! A table of homes stands beside them too: for each id below the number of slots the least slot
 //! that holds it, and the sum of all that do. A planner asks for the homes of all entries that
@@ -18,14 +18,16 @@
 //! - **The sum of an id's slots stands in the place of their number**, in as many bytes. The number says that an entry that
 //!   goes is in no other slot, and the sum says it too; but of an entry that moves up the number doesn't tell where to, and
 //!   each such move walked to the new slot.
+//! - **Free slots are marked in a tree, and what a planner marks in a flat row.** The free slots stay from change to change
+//!   and are few where a search is long. A row of a planner is made anew for an insertion, marked, some places many times,
+//!   and walked from end to end: there each mark costs less than in a tree, and no walk is long.
 #![tactic(auto)]
 
 ghost use Rattle.std.specs.Prelude.{◌≡◌, ◌==◌, ℕ, ◌+◌, ◌<◌, ◌≤◌, None, Some, IfOk, length, replicate, slice_set, count_by, is_none};
 ghost use Rattle.slot_order.specs.Order.{slot as held_in};
-ghost use Rattle.slot_pool.specs.Free.{IsBelow, IsFrom, nearer_of};
 ghost use Rattle.slot_pool.specs.Arrangement.{IsFirstFree, home_of, nearest_free, next_free_above, last_free_below, HasTwin};
 
-mod free;
+mod flat;
 mod homes;
 mod mark_row;
 mod sums;
@@ -33,6 +35,7 @@ mod sums;
 pub use mark_row::Marks;
 use std::alloc::{AllocError, Global};
 use std::marker::Model;
+use word_tree::Members;
 
 /// The most slots of an arrangement, and the most places of a row of marks.
 pub const MOST_PLACES: u32 = 65_536;
@@ -45,23 +48,20 @@ pub struct Arrangement {
     homes: Vec<Option<u32>>,
     // The sum of the slots that hold each of these ids.
     sums: Vec<u32>,
-    // The bit of each slot, 64 slots a word, 1 where the slot is empty.
-    free: Vec<u64>,
-    // How many slots are empty.
-    free_count: u32,
+    // Which slots are empty.
+    free: Members,
 }
 
 impl Model for Arrangement {
-    ghost use Rattle.std.specs.Prelude.{◌≡◌, ◌≤◌, length, count_by, is_none};
+    ghost use Rattle.std.specs.Prelude.{◌≡◌, ◌≤◌, length, map, is_none};
     ghost use Rattle.slot_pool.specs.Arrangement.{Slots};
-    ghost use Rattle.slot_pool.specs.Free.{AreFree};
     ghost use Rattle.slot_pool.specs.Homes.{AreHomes, AreSums};
 
     ghost Value = { Slots };
 
     ghost view = { λ a. a.slots.items };
 
-    ghost invariant = { λ a. (1 ≤ length a.slots.items) × (length a.slots.items ≤ 65536) × AreHomes a.slots.items a.homes.items × AreFree a.slots.items a.free.items × (a.free_count ≡ count_by (λ held. is_none held) a.slots.items) × AreSums a.slots.items a.sums.items };
+    ghost invariant = { λ a. (1 ≤ length a.slots.items) × (length a.slots.items ≤ 65536) × AreHomes a.slots.items a.homes.items × (a.free ≡ map (λ held. is_none held) a.slots.items) × AreSums a.slots.items a.sums.items };
 }
 
 impl Arrangement {
@@ -71,8 +71,8 @@ impl Arrangement {
         requires most { slots ≤ MOST_PLACES }
         ensures { IfOk result (λ arrangement. arrangement ≡ replicate slots None) }
     {
-        let free = free::all_marked(alloc, slots)?;
-        let free_count = slots;
+        let mut free = Members::new(alloc, slots)?;
+        free.fill();
         let homes = vec![in alloc; None; slots as usize]?;
         let sums = vec![in alloc; 0; slots as usize]?;
         let slots = vec![in alloc; None; slots as usize]?;
@@ -81,7 +81,6 @@ impl Arrangement {
             homes,
             sums,
             free,
-            free_count,
         })
     }
 
@@ -117,7 +116,7 @@ impl Arrangement {
     pub fn free_count(&self) -> u32
         ensures { result ≡ count_by (λ held. is_none held) self.now }
     {
-        self.free_count
+        self.free.count()
     }
 
     /// The empty slot from `from` on and before `to` that is nearest to `mid`, the lower one of two
@@ -128,9 +127,7 @@ impl Arrangement {
         requires to { to ≤ length self.now }
         ensures { result ≡ nearest_free self.now from to mid }
     {
-        let above = free::next_marked(&self.free, mid.max(from), to);
-        let below = free::last_marked(&self.free, from, mid.min(to));
-        nearer(mid, below, above)
+        self.free.nearest(from, to, mid)
     }
 
     /// The least empty slot from `from` on and before `to`, or `None` exactly where no slot there is
@@ -139,7 +136,7 @@ impl Arrangement {
         requires { to ≤ length self.now }
         ensures { IsFirstFree self.now from to result }
     {
-        free::next_marked(&self.free, from, to)
+        self.free.next(from, to)
     }
 
     /// The least empty slot above a slot, or `None` exactly where there is none.
@@ -147,7 +144,7 @@ impl Arrangement {
         requires { slot < length self.now }
         ensures { result ≡ next_free_above self.now slot }
     {
-        free::next_marked(&self.free, slot + 1, self.slots())
+        self.free.next(slot + 1, self.slots())
     }
 
     /// The greatest empty slot below a slot, or `None` exactly where there is none.
@@ -155,7 +152,7 @@ impl Arrangement {
         requires { slot < length self.now }
         ensures { result ≡ last_free_below self.now slot }
     {
-        free::last_marked(&self.free, 0, slot)
+        self.free.last(0, slot)
     }
 
     /// Puts an id into an empty slot, and changes no other one.
@@ -165,8 +162,7 @@ impl Arrangement {
         ensures { self.new ≡ slice_set self.old slot (Some id) }
     {
         homes::put(&mut self.slots, &mut self.homes, &mut self.sums, slot, id);
-        free::unmark(&mut self.free, slot);
-        self.free_count -= 1;
+        self.free.remove(slot);
     }
 
     /// Empties a slot, and changes no other one.
@@ -174,12 +170,8 @@ impl Arrangement {
         requires { slot < length self.old }
         ensures { self.new ≡ slice_set self.old slot None }
     {
-        let held = self.at(slot);
         homes::erase(&mut self.slots, &mut self.homes, &mut self.sums, slot);
-        free::mark(&mut self.free, slot);
-        if held.is_some() {
-            self.free_count += 1;
-        }
+        self.free.insert(slot);
     }
 
     /// Puts an id over the one in a slot, which stands in another slot too, and changes no other
@@ -200,28 +192,12 @@ impl Arrangement {
         let slots = Vec::from_slice(alloc, &self.slots)?;
         let homes = Vec::from_slice(alloc, &self.homes)?;
         let sums = Vec::from_slice(alloc, &self.sums)?;
-        let free = Vec::from_slice(alloc, &self.free)?;
+        let free = self.free.try_copy(alloc)?;
         Ok(Arrangement {
             slots,
             homes,
             sums,
             free,
-            free_count: self.free_count,
         })
     }
-}
-
-/// Of a slot below `mid` and one that isn't, the nearer one, the lower of two at one distance.
-fn nearer(mid: u32, below: Option<u32>, above: Option<u32>) -> Option<u32>
-    requires below { IsBelow mid below }
-    requires above { IsFrom mid above }
-    ensures { result ≡ nearer_of mid below above }
-{
-    let Some(low) = below else {
-        return above;
-    };
-    let Some(high) = above else {
-        return below;
-    };
-    if high - mid < mid - low { above } else { below }
 }

@@ -1,10 +1,11 @@
 //! Rows of marks, 64 a word, in which a search passes 64 places with no mark at a step.
 ghost use Rattle.std.specs.Prelude.{◌≡◌, ◌<◌, ◌≤◌, true, false, [], OnOk, OnErr, length, replicate, slice_set, slice_index_or};
-ghost use Rattle.slot_pool.specs.Rows.{IsNextSet, IsLastSet};
+ghost use Rattle.word_tree.specs.Marks.{IsNextSet, IsLastSet};
 
-use crate::{MOST_PLACES, free};
+use crate::{MOST_PLACES, flat};
 use std::alloc::{AllocError, Global};
 use std::marker::Model;
+use word_tree::words::put;
 
 /// A row of places, each marked or not.
 #[derive(Debug, Drop)]
@@ -17,11 +18,11 @@ pub struct Marks {
 
 impl Model for Marks {
     ghost use Rattle.std.specs.Prelude.{ℕ, ◌*◌, ◌≤◌, Bool, List, length};
-    ghost use Rattle.slot_pool.specs.Rows.{marks_of};
+    ghost use Rattle.word_tree.specs.Marks.{marks_of};
 
     ghost Value = { List Bool };
 
-    ghost view = { λ m. marks_of m.words.items m.places };
+    ghost view = { λ m. marks_of m.words.items 0 m.places };
 
     ghost invariant = { λ m. (m.places ≤ 65536) × (m.places ≤ length m.words.items * 64) × (length m.words.items ≤ 1024) };
 }
@@ -64,7 +65,7 @@ impl Marks {
         requires { at < length self.old }
         ensures { self.new ≡ slice_set self.old at true }
     {
-        free::mark(&mut self.words, at);
+        put(&mut self.words, at);
     }
 
     /// Whether a place is marked.
@@ -80,7 +81,7 @@ impl Marks {
         requires { to ≤ length self.now }
         ensures { IsNextSet self.now from to result }
     {
-        free::next_marked(&self.words, from, to)
+        flat::next_marked(&self.words, from, to)
     }
 
     /// The greatest marked place from `from` on and before `to`, or `None` exactly where none there is.
@@ -88,6 +89,6 @@ impl Marks {
         requires { to ≤ length self.now }
         ensures { IsLastSet self.now from to result }
     {
-        free::last_marked(&self.words, from, to)
+        flat::last_marked(&self.words, from, to)
     }
 }

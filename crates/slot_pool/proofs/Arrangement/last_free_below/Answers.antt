@@ -1,6 +1,10 @@
-use Rattle.std.proofs.Common.{sym, rules}
-use Rattle.slot_pool.proofs.WordSearch.{last_is}
+use Rattle.std.proofs.Common.{length, sym, ap, subst, arith}
+use Rattle.word_tree.specs.Marks.{IsLastSet}
+use Rattle.slot_pool.proofs.FreeSlots.{last_is}
 use Rattle.slot_pool.proofs.Arrangement.last_free_below.Goals as goal
 
 pub returns : goal.returns
-returns c = rw (← c.self.view_is) (sym (last_is c.self.inside.slots.items c.self.inside.free.items c.args.slot c.last_marked.result c.self.invariant.3 (search rules) (search (rules, c.last_marked.ensures, c.deref.ensures.value))))
+returns c =
+    let size = ap length c.self.view_is in
+    rw (← c.self.view_is) (sym (last_is c.self.inside.slots.items c.args.slot c.last.result (let inside = c.requires in omega arith)
+    (subst (λ marks. IsLastSet marks 0 c.args.slot c.last.result) c.self.invariant.3 c.last.ensures)))

@@ -1,9 +1,9 @@
-use Rattle.std.proofs.Common.{◌≡◌, None, replicate, length, arith, sym, ap, ◌∙◌}
+use Rattle.std.proofs.Common.{◌≡◌, None, true, false, replicate, length, arith, sym, ap, ◌∙◌}
 use Rattle.std.proofs.lemmas.List.{length-replicate}
 use Rattle.std.proofs.lemmas.Grind.{common_steps}
+use Rattle.slot_pool.proofs.FreeSlots.{free_marks, all_free}
 use Rattle.slot_pool.proofs.LeastSlots.{homes_none}
 use Rattle.slot_pool.proofs.SlotSums.{sums_none}
-use Rattle.slot_pool.proofs.WordSearch.{all_free, count_all}
 use Rattle.slot_pool.proofs.Arrangement.new.Goals as goal
 
 pub invariant_of-result : goal.invariant_of-result
@@ -16,7 +16,7 @@ invariant_of-result c =
       omega arith,
       omega arith,
       rw (slots, homes) (homes_none c.args.slots),
-      rw slots (all_free c.args.slots c.in_ok-free.free.items c.in_ok-free.ensures.room c.in_ok-free.ensures.most c.in_ok-free.ensures.marked c.in_ok-free.ensures.other),
-      rw slots (sym (count_all c.args.slots)),
+      c.fill.ensures ∙ (ap (λ marks. replicate (length marks) true) c.in_ok-free.ensures ∙ (ap (λ size. replicate size true) (length-replicate c.args.slots false)
+          ∙ (sym (all_free c.args.slots) ∙ sym (ap free_marks slots)))),
       rw (slots, sums) (sums_none c.args.slots),
     )
