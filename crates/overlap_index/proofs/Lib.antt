@@ -10,3 +10,5 @@ mod Rows
 mod Sides
 mod Taken
 pub mod Came
+mod Known
+mod Among

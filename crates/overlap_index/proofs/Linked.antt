@@ -71,7 +71,7 @@ live_size slots live apart =
     subst (λ n. n < slots) (m.2 ∙ sym (eqb-true q w.0 w.2)) (AllByRecursion-member (λ (one : LivePiece). one.id < slots) live m.0 apart.small m.1)) in
     omega arith
 
-on_size : (side : Side) (of : LivePiece) (slots : ℕ) (live : List LivePiece) → AreApart slots live → length (ids_on side of live) ≤ slots
+pub on_size : (side : Side) (of : LivePiece) (slots : ℕ) (live : List LivePiece) → AreApart slots live → length (ids_on side of live) ≤ slots
 on_size side of slots live apart =
     let some : List LivePiece = filter (λ other. is_on side other of) live in
     let size = live_size slots live apart in

@@ -1,6 +1,7 @@
 -- The live ids that overlap, linked.
-use Rattle.std.specs.Prelude.{◌≡◌, ℕ, ◌<◌, ◌≤◌, ◌↔◌, ◌⊎◌, List, IsTrue, Contains, length, slice_index, slice_index_or}
+use Rattle.std.specs.Prelude.{◌≡◌, ℕ, ◌<◌, ◌≤◌, ◌↔◌, ◌⊎◌, List, Option, Some, IsTrue, Contains, length, slice_index, slice_index_or}
 use Rattle.order_chains.specs.Pairs.{Pairs, HasPair}
+use Rattle.prefix_trie.specs.Routes.{Route, Routes, route_of}
 use Rattle.placement.specs.declared.LivePiece.{LivePiece}
 use Rattle.placement.specs.Live.{AreApart, is_above}
 use Rattle.overlap_index.specs.Buckets.{Links, AreBuckets}
@@ -16,14 +17,25 @@ pub record ArePlaced (slots : ℕ) (live pieces : List LivePiece) (places : List
   pub many : length places ≡ slots
   pub placed : (k : ℕ) (one : LivePiece) → k < length pieces → slice_index_or pieces k one ≡ one → slice_index places one.id ≡ k
 
+-- each live id has its destination, and no other id has one
+pub record AreDestinations (slots : ℕ) (live : List LivePiece) (routes : Routes) : Type 0 where
+  pub many : length routes ≡ slots
+  pub from : (id : ℕ) (route : Route) → route_of routes id ≡ Some route → (one : LivePiece) × Contains live one × (one.id ≡ id) × (route.block ≡ one.piece.dst)
+  pub to : (one : LivePiece) → Contains live one → (route : Route) × (route_of routes one.id ≡ Some route) × (route.block ≡ one.piece.dst)
+
+-- where they are known
+abbrev pub AreIfKnown : ℕ → List LivePiece → Option Routes → Type 0
+AreIfKnown slots live known = (routes : Routes) → known ≡ Some routes → AreDestinations slots live routes
+
 -- the parts of an index: what is live in the order of its coming, the same in any order, the place of each id, the ids in
--- buckets, the columns beside the pieces, and the links
-pub record AreParts (slots : ℕ) (live pieces : List LivePiece) (places : List ℕ) (buckets : Links) (columns : SpanColumns) (edges : Pairs) : Type 0 where
+-- buckets, the columns beside the pieces, the destinations, and the links
+pub record AreParts (slots : ℕ) (live pieces : List LivePiece) (places : List ℕ) (buckets : Links) (columns : SpanColumns) (destinations : Option Routes) (edges : Pairs) : Type 0 where
   pub most : slots ≤ 65536
   pub apart : AreApart slots live
   pub table : ArePlaced slots live pieces places
   pub found : AreBuckets slots live buckets
   pub beside : columns ≡ columns_of pieces
+  pub known : AreIfKnown slots live destinations
   pub nodes : edges.ids ≡ slots
   pub links : AreLinked edges live
 

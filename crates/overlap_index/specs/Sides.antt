@@ -1,5 +1,5 @@
 -- The side of a piece on which another one is, and the ids on one side.
-use Rattle.std.specs.Prelude.{ℕ, List, length, ◌≤◌, Contains, ◌↔◌, nat_eq, None, Option, Some, if◌then◌else◌, Bool, filter, map}
+use Rattle.std.specs.Prelude.{◌≡◌, ℕ, List, length, ◌≤◌, Contains, ◌↔◌, nat_eq, None, Option, Some, if◌then◌else◌, Bool, filter, map}
 use Rattle.std.specs.List.{IsDistinct}
 use Rattle.overlap_index.specs.declared.scan.Side.{Side}
 use Rattle.overlap_index.specs.declared.scan.Side.TheVariants.{Above, Below}
@@ -24,3 +24,11 @@ pub record AreOn (side : Side) (of : LivePiece) (live : List LivePiece) (ids : L
   pub exact : (id : ℕ) → Contains ids id ↔ Contains (ids_on side of live) id
   pub once : IsDistinct nat_eq ids
   pub most : length ids ≤ 65536
+
+-- these are the ids on either side of a piece of some live pieces that have these ids
+pub record AreAmong (of : LivePiece) (live : List LivePiece) (ids above below : List ℕ) : Type 0 where
+  pub pieces : List LivePiece
+  pub named : map (λ (one : LivePiece). one.id) pieces ≡ ids
+  pub standing : (one : LivePiece) → Contains pieces one → Contains live one
+  pub on_above : above ≡ ids_on Above of pieces
+  pub on_below : below ≡ ids_on Below of pieces

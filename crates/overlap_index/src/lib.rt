@@ -9,7 +9,13 @@
 //! that both ends lead to, and a question only follows the links of its id. To ask of two ids needs no link: a table
 //! has the place of each, and the pieces that stand there are compared.
 //!
-//! A new id is compared with every live piece. But most of them have nothing to do with it, and almost all are told
+//! Where there are many ids, and as long as no two live pieces have one destination, as the routes of a table, the destinations
+//! stand in a trie, and what overlaps a new one covers it or lies in it there: a walk finds these, and a table's other pieces
+//! aren't looked at (`destinations`). Each of them is compared by priority and piece all the same, so that nothing is asked of
+//! their kind.
+//!
+//! Where two have one destination, as in lists, the trie is given up for good, and a new id is compared with every live
+//! piece, as it is where there are few ids. But most of them have nothing to do with it, and almost all are told
 //! apart by their addresses alone. So each is looked at once, but eight at a time, by a window of 32 bits of its
 //! destination: the least and the greatest of what its addresses have there stand in columns of their own. Two blocks
 //! that overlap have a number in common in every window, so any one may tell them apart, in any order. There are three:
@@ -29,15 +35,17 @@
 //!
 //! # What it cost
 //! A question costs time by the number of ids that it names, and not by the number of live pieces, and `is_above`,
-//! `is_live` and `rank_of` take the same time whatever is live. `add` passes over the live pieces once, eight in a step;
+//! `is_live` and `rank_of` take the same time whatever is live. `add` walks by as many nodes as there are on the way to its
+//! destination and inside it, or passes over the live pieces once, eight in a step, where these are more than one in 32 of
+//! them, since a node costs some hundred instructions and a piece that is passed over three, and where there is no trie;
 //! `id_of` looks at the ids of one bucket, and there are as many buckets as ids; `remove` takes as many steps as there are
 //! links that go, and at most one for each id of a bucket, and moves one piece. Least and greatest numbers, and not
 //! number and mask, are in the columns, since the order of numbers is all that the proof needs then.
 //!
-//! Only `new` and `add` take memory: 60 bytes an id beside the piece, which stands once, and 24 bytes a pair of ids
-//! that overlap, whose room doubles where it grows. The worst list, each piece over each other, has n (n - 1) / 2
-//! pairs: 12 bytes times n squared, 201 MB at 4,096 ids and 51 GB at 65,536, in a block with room for up to twice as
-//! many.
+//! Only `new` and `add` take memory: 64 bytes an id beside the piece, which stands once, at most 96 a destination in the
+//! trie, and 24 bytes a pair of ids that overlap, whose room doubles where it grows. The worst list, each piece over each
+//! other, has n (n - 1) / 2 pairs: 12 bytes times n squared, 201 MB at 4,096 ids and 51 GB at 65,536, in a block with room
+//! for up to twice as many.
 //!
 //! # What isn't promised
 //! Any order of the ids that are named. Lists in which many rules have both blocks and their ports in common, `any`
@@ -46,6 +54,10 @@
 //! chooses the rules can choose such that all lead to one bucket. Then `id_of` and `remove` look at each live id.
 //!
 //! # Decided
+//! - **The trie knows destinations and no slots.** With slots it would tell the bounds of a gap without a list of what
+//!   overlaps, but each write of the planner would have to be made in it too, and the manager would carry it beside its
+//!   arrangement. So it only takes the place of the pass, and no contract above says more or less.
+//! - **A trie that finds no memory is let go**, so that a refusal still leaves all as before, and no refusal is its own.
 //! - **The id of a piece is found by buckets that are linked by numbers** (`id_of`), and not by the pass that finds its
 //!   overlaps, as it once was: a commit asks for each entry that it rewrites or erases, and paid for the whole table each
 //!   time. The price is 8 bytes an id. A map of the kit would ask for memory as ids come, take some 20 bytes an id and
@@ -63,11 +75,12 @@ ghost use Rattle.std.specs.Prelude.{◌≡◌, ◌<◌, ◌≤◌, ◌↔◌, �
 ghost use Rattle.std.specs.List.{IsDistinct};
 ghost use Rattle.placement.specs.declared.LivePiece.{LivePiece};
 ghost use Rattle.placement.specs.Live.{AreApart, is_live, is_above, without_id, ids_above, ids_below, rank_in};
-ghost use Rattle.overlap_index.specs.Sides.{AreOn};
+ghost use Rattle.overlap_index.specs.Sides.{AreAmong, AreOn};
 ghost use Rattle.overlap_index.specs.declared.scan.Side.TheVariants as side;
 
 mod buckets;
 mod columns;
+mod destinations;
 mod links;
 mod near;
 mod overlaps;
@@ -76,6 +89,7 @@ mod scan;
 use buckets::{Bucket, Buckets};
 use call_history::History;
 use columns::Columns;
+use destinations::Destinations;
 use links::{link_above, link_below};
 use order_chains::Edges;
 pub use overlaps::Overlaps;
@@ -87,6 +101,9 @@ use std::marker::Model;
 
 /// The greatest number of ids.
 pub const MOST_IDS: u32 = 65_536;
+
+/// How many nodes a walk may look at where few pieces are live: some more than stand on the way to one.
+const LONG_WALK: usize = 64;
 
 /// What became of an id, as the history of an index has it.
 #[derive(Drop)]
@@ -106,6 +123,8 @@ pub struct Index {
     pieces: Vec<LivePiece>,
     // Their addresses, in the same order.
     columns: Columns,
+    // Their destinations, where no two are the same.
+    destinations: Destinations,
     // The place of each live id among them; what stands at another id is of no account.
     places: Vec<u32>,
     // The live ids, by their pieces and their priorities.
@@ -126,7 +145,7 @@ impl Model for Index {
 
     ghost view = { λ i. record { slots = i.slots; live = live_after i.history.items } };
 
-    ghost invariant = { λ i. AreParts i.slots (live_after i.history.items) i.pieces.items i.places.items i.buckets i.columns i.edges };
+    ghost invariant = { λ i. AreParts i.slots (live_after i.history.items) i.pieces.items i.places.items i.buckets i.columns i.destinations i.edges };
 }
 
 impl Index {
@@ -139,6 +158,7 @@ impl Index {
     {
         let pieces = Vec::with_capacity(alloc, slots as usize)?;
         let columns = Columns::new(alloc, slots as usize)?;
+        let destinations = Destinations::new(alloc, slots)?;
         let places = Vec::from_elem(alloc, 0, slots as usize)?;
         let buckets = Buckets::new(alloc, slots)?;
         let edges = Edges::new(alloc, slots)?;
@@ -146,6 +166,7 @@ impl Index {
             slots,
             pieces,
             columns,
+            destinations,
             places,
             buckets,
             edges,
@@ -178,6 +199,7 @@ impl Index {
         link_above(&mut self.edges, &found.above, id);
         link_below(&mut self.edges, id, &found.below);
         self.buckets.came(id, piece, priority);
+        self.destinations.enter(id, &piece.dst);
         self.history = self.history.and(&Change::Came(one));
         Ok(())
     }
@@ -196,6 +218,7 @@ impl Index {
         self.pieces.swap_remove(place);
         self.columns.remove(place);
         self.edges.drop_node(id);
+        self.destinations.leave(id);
         self.history = self.history.and(&Change::Went(id));
     }
 
@@ -297,11 +320,32 @@ impl Index {
         &self.pieces[self.places[id as usize] as usize]
     }
 
-    /// The live ids on either side of a piece, by a pass over all live pieces.
+    /// The live ids on either side of a piece: of those that a walk finds by their destinations, or else by a pass over all
+    /// live pieces. The walk looks at a piece at a time and the pass at eight, so a long walk is given up for the pass.
     fn overlapping(&self, of: &LivePiece) -> Result<Found, AllocError>
         ensures above { IfOk result (λ found. AreOn side.Above of.now self.now.live found.above.items) }
         ensures below { IfOk result (λ found. AreOn side.Below of.now self.now.live found.below.items) }
     {
-        overlapping(self.alloc, of, &self.pieces, &self.columns)
+        let most = self.pieces.len() / 32 + LONG_WALK;
+        let walked = self.destinations.nested(self.alloc, &of.piece.dst, most)?;
+        match walked {
+            Some(ids) => self.among(of, &ids),
+            None => overlapping(self.alloc, of, &self.pieces, &self.columns),
+        }
+    }
+
+    /// Of live ids those on either side of a piece.
+    fn among(&self, of: &LivePiece, ids: &[u32]) -> Result<Found, AllocError>
+        requires live { (id : ℕ) → Contains ids.now id → IsTrue (is_live self.now.live id) }
+        ensures { IfOk result (λ found. AreAmong of.now self.now.live ids.now found.above.items found.below.items) }
+    {
+        let mut found = Found {
+            above: Vec::new(self.alloc),
+            below: Vec::new(self.alloc),
+        };
+        for id in ids {
+            found.put(self.piece_of(*id), of)?;
+        }
+        Ok(found)
     }
 }

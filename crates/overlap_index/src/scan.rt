@@ -29,7 +29,7 @@ pub(crate) struct Found {
 
 impl Found {
     /// Puts the id of one live piece more on its side of a piece, if it is on one.
-    fn put(&mut self, other: &LivePiece, of: &LivePiece) -> Result<(), AllocError>
+    pub(crate) fn put(&mut self, other: &LivePiece, of: &LivePiece) -> Result<(), AllocError>
         ensures above { OnOk result (self.new.above.items ≡ self.old.above.items ++ ids_on side.Above of.now (other.now ∷ [])) }
         ensures below { OnOk result (self.new.below.items ≡ self.old.below.items ++ ids_on side.Below of.now (other.now ∷ [])) }
     {

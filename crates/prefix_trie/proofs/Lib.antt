@@ -10,10 +10,13 @@ pub mod Halves
 pub mod Kept
 pub mod Likes
 pub mod Made
+pub mod Nexts
 pub mod Onlys
+pub mod Orders
 pub mod Parts
 pub mod Pruned
 pub mod Rooms
 pub mod Shown
 pub mod Tops
+pub mod Walked
 pub mod Ways

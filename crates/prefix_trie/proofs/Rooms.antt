@@ -1,9 +1,10 @@
 -- An empty place at the end changes nothing.
-use Rattle.std.proofs.Common.{◌≡◌, ℕ, zero, suc, ◌≤◌, ◌++◌, List, [], ◌∷◌, Option, Some, None, length, refl, arith, sym, ◌∙◌}
+use Rattle.std.proofs.Common.{◌≡◌, ℕ, zero, suc, ◌≤◌, ◌++◌, List, [], ◌∷◌, Option, Some, None, length, refl, arith, sym, ◌∙◌, ap}
 use Rattle.std.proofs.lemmas.List.{get_or_past}
+use Rattle.rule_model.specs.AddressBlock.{AddressBlock}
 use Rattle.prefix_trie.specs.declared.node.Node.{Node}
 use Rattle.prefix_trie.specs.Nodes.{node_at, whole}
-use Rattle.prefix_trie.specs.Trie.{AreLike, IsRoom}
+use Rattle.prefix_trie.specs.Trie.{AreLike, IsDeepest, IsRoom}
 
 pub pushed : (nodes : List (Option Node)) (at : ℕ) → node_at (nodes ++ None ∷ []) at ≡ node_at nodes at
 pushed [] zero = refl
@@ -25,6 +26,19 @@ same-like nodes = record {
 
 pub pushed-none : (nodes : List (Option Node)) → node_at (nodes ++ None ∷ []) (length nodes) ≡ None
 pushed-none nodes = pushed nodes (length nodes) ∙ get_or_past nodes (length nodes) None (omega arith)
+
+-- the deepest node stays it
+pub deep-kept : (old new : List (Option Node)) (block : AddressBlock) (at : ℕ) → AreLike whole old new → IsDeepest old block at → IsDeepest new block at
+deep-kept old new block at like deep =
+    let here = like.to at deep.node deep.is in
+    record {
+      node = deep.node;
+      is = here.is ∙ ap (λ (n : Node). Some n) here.like;
+      covers = deep.covers;
+      deepest = λ other held held_is cov.
+          let was = like.from other held held_is in
+          deep.deepest other held (was.is ∙ ap (λ (n : Node). Some n) was.like) cov;
+    }
 
 -- an empty place stays so
 pub room-kept : (old new : List (Option Node)) (but place : ℕ) → AreLike whole old new → length old ≤ length new → IsRoom old but place → IsRoom new but place

@@ -7,3 +7,4 @@ pub mod Nodes
 pub mod Cells
 pub mod Trie
 pub mod Sought
+pub mod Nested

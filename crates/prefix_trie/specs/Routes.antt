@@ -23,6 +23,12 @@ AreApart routes = (a b : ℕ) (one other : Route) → route_of routes a ≡ Some
 abbrev pub IsNew : Routes → AddressBlock → Type 0
 IsNew routes block = (id : ℕ) (route : Route) → route_of routes id ≡ Some route → route.block ≡ block → ⊥
 
+-- an id has this prefix
+pub record HasPrefix (routes : Routes) (block : AddressBlock) (id : ℕ) : Type 0 where
+  pub route : Route
+  pub has : route_of routes id ≡ Some route
+  pub same : route.block ≡ block
+
 -- an id has a prefix inside the block, and stands in a slot
 pub record StandsInside (routes : Routes) (block : AddressBlock) (slot : ℕ) : Type 0 where
   pub id : ℕ

@@ -280,3 +280,15 @@ pub record HasOnly (node : Node) (child : Option ℕ) : Type 0 where
   pub no_id : node.id ≡ None
   pub down : (side : Bool) (place : ℕ) → child_of node side ≡ Some place → child ≡ Some place
   pub on : (place : ℕ) → child ≡ Some place → (side : Bool) × (child_of node side ≡ Some place)
+
+-- the node of a block, with an id
+pub record HasNamed (nodes : List (Option Node)) (block : AddressBlock) (id : ℕ) : Type 0 where
+  pub at : ℕ
+  pub node : Node
+  pub is : node_at nodes at ≡ Some node
+  pub block_is : node.prefix ≡ block
+  pub has : node.id ≡ Some id
+
+-- the id of the node of a block
+abbrev pub IsIdOf : List (Option Node) → AddressBlock → Option ℕ → Type 0
+IsIdOf nodes block found = MatchOption found ((id : ℕ) → HasNamed nodes block id → ⊥) (HasNamed nodes block)

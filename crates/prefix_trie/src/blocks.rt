@@ -5,11 +5,11 @@ ghost use Rattle.prefix_trie.specs.Blocks.{IsMeet, bit_at, covers};
 
 use rule_model::Prefix;
 
-/// Whether each address of the second block is in the first.
-pub(crate) fn covers(outer: &Prefix, inner: &Prefix) -> bool
-    ensures { result ≡ covers outer.now inner.now }
+/// Whether each address of a block is in that of an address and a length.
+pub(crate) fn covered_by(addr: u128, len: u8, inner: &Prefix) -> bool
+    ensures { result ≡ covers (record { addr = addr; len = len }) inner.now }
 {
-    outer.len() <= inner.len() && outer.holds(inner.addr())
+    len <= inner.len() && upper(inner.addr(), len) == upper(addr, len)
 }
 
 /// The bit of an address that has so many before it.

@@ -1,7 +1,10 @@
 //! A node as it stands in memory.
 ghost use Rattle.std.specs.Prelude.{◌≡◌, Some, None, is_none};
-ghost use Rattle.prefix_trie.specs.Nodes.{top_of};
+ghost use Rattle.std.specs.Option.{ForSome};
+ghost use Rattle.prefix_trie.specs.Blocks.{covers};
+ghost use Rattle.prefix_trie.specs.Nodes.{child_of, top_of};
 
+use crate::blocks::covered_by;
 use crate::node::Node;
 use crate::place::Place;
 use rule_model::Prefix;
@@ -94,6 +97,48 @@ impl Cell {
         ensures { result ≡ is_none self.now }
     {
         self.len == NO_NODE
+    }
+
+    /// The length of the prefix of the node.
+    pub(crate) fn len(&self) -> u8
+        ensures { ForSome self.now (λ node. result ≡ node.prefix.len) }
+    {
+        self.len
+    }
+
+    /// Whether the prefix of the node covers a block.
+    pub(crate) fn covers(&self, block: &Prefix) -> bool
+        ensures { ForSome self.now (λ node. result ≡ covers node.prefix block.now) }
+    {
+        covered_by(self.addr, self.len, block)
+    }
+
+    /// Whether a block covers the prefix of the node.
+    pub(crate) fn lies_in(&self, block: &Prefix) -> bool
+        ensures { ForSome self.now (λ node. result ≡ covers block.now node.prefix) }
+    {
+        block.len() <= self.len && block.holds(self.addr)
+    }
+
+    /// The child of the node on one side.
+    pub(crate) fn child(&self, bit: bool) -> Place
+        ensures { ForSome self.now (λ node. result ≡ child_of node bit) }
+    {
+        if bit { self.one } else { self.zero }
+    }
+
+    /// The parent of the node.
+    pub(crate) fn parent(&self) -> Place
+        ensures { ForSome self.now (λ node. result ≡ node.parent) }
+    {
+        self.parent
+    }
+
+    /// The id of the node.
+    pub(crate) fn id(&self) -> Place
+        ensures { ForSome self.now (λ node. result ≡ node.id) }
+    {
+        self.id
     }
 
     /// The greatest slot of the node and those below it, none where there is no node.

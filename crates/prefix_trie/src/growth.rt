@@ -3,13 +3,12 @@ ghost use Rattle.std.specs.Prelude.{◌≡◌, ◌≢◌, ◌<◌, ◌≤◌, �
 ghost use Rattle.std.specs.Option.{ForSome};
 ghost use Rattle.rule_model.specs.AddressBlock.{IsAddressBlock};
 ghost use Rattle.prefix_trie.specs.Nodes.{node_at, bare, top_at, whole, with_entry};
-ghost use Rattle.prefix_trie.specs.Trie.{IsTrie, HaveTops, HaveTopsPast, HaveBare, AreLike, AreEntries, HasGap, IsAttached, IsFresh, IsMade, IsRoom, HasOnly};
+ghost use Rattle.prefix_trie.specs.Trie.{IsTrie, HaveTops, HaveTopsPast, HaveBare, AreLike, AreEntries, HasGap, IsAttached, IsFresh, IsDeepest, IsMade, IsRoom, HasOnly};
 
 use crate::blocks::{bit_at, meet};
 use crate::cell::Cell;
 use crate::node::{Node, adopt, clear, empty, is_empty, node_at, set_node, top_at, top_below};
 use crate::place::Place;
-use crate::search::deepest;
 use rule_model::Prefix;
 use std::alloc::AllocError;
 
@@ -47,20 +46,21 @@ fn left_place(nodes: &[Cell], left: &mut Vec<u32>, but: u32) -> Option<u32>
     }
 }
 
-/// The place of the node of a prefix, which is made where it is missing, in the first place or in both.
-pub(crate) fn make(nodes: &mut [Cell], first: u32, second: u32, prefix: &Prefix) -> u32
+/// The place of the node of a prefix, which is made where it is missing, in the first place or in both, below the deepest
+/// node that covers it.
+pub(crate) fn make(nodes: &mut [Cell], first: u32, second: u32, at: u32, prefix: &Prefix) -> u32
     requires few { length nodes.old < 2 ^ 32 }
     requires trie { IsTrie nodes.old }
     requires tops { HaveTops nodes.old }
     requires first { IsRoom nodes.old 0 first }
     requires second { IsRoom nodes.old first second }
+    requires deep { IsDeepest nodes.old prefix.now at }
     ensures trie { IsTrie nodes.new }
     ensures tops { HaveTops nodes.new }
     ensures entries { AreEntries nodes.old nodes.new }
     ensures made { IsMade nodes.new prefix.now result }
 {
     let addr = prefix.addr();
-    let at = deepest(nodes, prefix);
     let here = node_at(nodes, at);
     if here.prefix.len() == prefix.len() {
         return at;

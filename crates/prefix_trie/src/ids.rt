@@ -2,18 +2,20 @@
 ghost use Rattle.std.specs.Prelude.{◌≡◌, ◌<◌, ℕ, Some, None, IsSome, length, slice_set};
 ghost use Rattle.prefix_trie.specs.Routes.{Routes, IsNew, route_of};
 ghost use Rattle.prefix_trie.specs.Changes.{with_slot};
-ghost use Rattle.prefix_trie.specs.Trie.{AreParts, IsRoom};
+ghost use Rattle.prefix_trie.specs.Trie.{AreParts, IsDeepest, IsRoom};
 
 use crate::cell::Cell;
 use crate::growth::{make, prune, stand};
 use crate::place::Place;
 use rule_model::Prefix;
 
-/// Gives an id a prefix that no id has, with two empty places, of which those are taken that are needed.
+/// Gives an id a prefix that no id has, with two empty places, of which those are taken that are needed, below the deepest
+/// node that covers it.
 pub(crate) fn enter(
     nodes: &mut [Cell],
     places: &mut [Place],
     room: (u32, u32),
+    deep: u32,
     prefix: &Prefix,
     id: u32,
 )
@@ -21,9 +23,10 @@ pub(crate) fn enter(
     requires small { id < length places.old }
     requires first { IsRoom nodes.old 0 room.0 }
     requires second { IsRoom nodes.old room.0 room.1 }
+    requires deep { IsDeepest nodes.old prefix.now deep }
     ensures { (routes : Routes) → AreParts routes places.old nodes.old → route_of routes id ≡ None → IsNew routes prefix.now → AreParts (slice_set routes id (Some (record { block = prefix.now; slot = None }))) places.new nodes.new }
 {
-    let at = make(nodes, room.0, room.1, prefix);
+    let at = make(nodes, room.0, room.1, deep, prefix);
     stand(nodes, at, Place::some(id), Place::none());
     places[id as usize] = Place::some(at);
 }

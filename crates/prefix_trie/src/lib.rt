@@ -28,17 +28,20 @@
 //! - **A slot is below 2^32 - 1** (`put`), so that it stands in 32 bits with the mark that there is none.
 #![tactic(auto)]
 
-ghost use Rattle.std.specs.Prelude.{◌≡◌, ◌<◌, ◌≤◌, ◌-◌, ◌^◌, ℕ, Some, None, IsSome, IfOk, OnOk, OnErr, length, replicate, slice_set};
+ghost use Rattle.std.specs.Prelude.{◌≡◌, ◌<◌, ◌≤◌, ◌-◌, ◌^◌, ℕ, Some, None, IsSome, IsTrue, IsFalse, IfSome, IfOk, OnErr, MatchOption, length, replicate, slice_set};
 ghost use Rattle.std.specs.Option.{ForSome};
-ghost use Rattle.prefix_trie.specs.Routes.{IsAnswer, IsLastInside, IsNearestAround, IsNew, route_of};
+ghost use Rattle.prefix_trie.specs.Routes.{HasPrefix, IsAnswer, IsLastInside, IsNearestAround, IsNew, route_of};
 ghost use Rattle.prefix_trie.specs.Changes.{with_slot};
+ghost use Rattle.prefix_trie.specs.Nested.{AreAllNested};
 
 mod blocks;
 mod cell;
 mod growth;
 mod ids;
+mod nested;
 mod node;
 mod place;
+mod read;
 mod search;
 
 use call_history::History;
@@ -48,7 +51,7 @@ use ids::{enter, leave, stand_at};
 use node::{empty, is_empty};
 use place::Place;
 use rule_model::Prefix;
-use search::{Sought, nearest};
+use search::{Sought, deepest, id_in, nearest};
 use std::alloc::{AllocError, Global};
 use std::marker::Model;
 
@@ -112,28 +115,35 @@ impl PrefixTrie {
         })
     }
 
-    /// Gives an id without a prefix one that no id has. It stands in no slot then. It is refused only where there is no
-    /// memory, and then all is as before.
-    pub fn insert(&mut self, prefix: &Prefix, id: u32) -> Result<(), AllocError>
+    /// Gives an id without a prefix one, if no id has it, and tells whether it did. The id stands in no slot then. It is
+    /// refused only where there is no memory. Where it isn't done all is as before.
+    pub fn insert(&mut self, prefix: &Prefix, id: u32) -> Result<bool, AllocError>
         requires small { id < length self.old }
         requires absent { route_of self.old id ≡ None }
-        requires new { IsNew self.old prefix.now }
-        ensures done { OnOk result (self.new ≡ slice_set self.old id (Some (record { block = prefix.now; slot = None }))) }
+        ensures new { IfOk result (λ done. IsTrue done → IsNew self.old prefix.now) }
+        ensures done { IfOk result (λ done. IsTrue done → self.new ≡ slice_set self.old id (Some (record { block = prefix.now; slot = None }))) }
+        ensures taken { IfOk result (λ done. IsFalse done → (other : ℕ) × HasPrefix self.old prefix.now other) }
+        ensures same { IfOk result (λ done. IsFalse done → self.new ≡ self.old) }
         ensures refused { OnErr result (self.new ≡ self.old) }
     {
+        let deep = deepest(&self.nodes, prefix);
+        if id_in(&self.nodes, deep, prefix).is_some() {
+            return Ok(false);
+        }
         let first = room(&mut self.nodes, &mut self.left, 0)?;
         let second = room(&mut self.nodes, &mut self.left, first)?;
         enter(
             &mut self.nodes,
             &mut self.places,
             (first, second),
+            deep,
             prefix,
             id,
         );
         self.history = self.history.and(&Change::Came(id, *prefix));
         self.give_back(Some(second));
         self.give_back(Some(first));
-        Ok(())
+        Ok(true)
     }
 
     /// Takes away the prefix of an id that has one, and its slot. Its node goes too where no two ways part there.
@@ -199,6 +209,26 @@ impl PrefixTrie {
             None => None,
             Some(at) => nearest(&self.nodes, at, Sought::Slot),
         }
+    }
+
+    /// The ids whose prefixes cover a prefix or lie in it, each once. None is a walk that was given up, as it is past `most`
+    /// nodes; no clause says when, so a caller has another way.
+    pub fn nested(
+        &self,
+        alloc: Global,
+        prefix: &Prefix,
+        most: usize,
+    ) -> Result<Option<Vec<u32>>, AllocError>
+        ensures { IfOk result (λ found. IfSome found (λ ids. AreAllNested self.now prefix.now ids.items)) }
+    {
+        nested::nested(alloc, &self.nodes, prefix, most)
+    }
+
+    /// The id that has a prefix.
+    pub fn id_of(&self, prefix: &Prefix) -> Option<u32>
+        ensures { MatchOption result (IsNew self.now prefix.now) (HasPrefix self.now prefix.now) }
+    {
+        search::id_of(&self.nodes, prefix)
     }
 
     /// The id of the longest prefix that holds an address, whether it stands in a slot or not. It is None exactly where no

@@ -1,15 +1,15 @@
 //! Walks down and up a trie.
 ghost use Rattle.std.specs.Prelude.{◌≡◌, ◌<◌, ◌≤◌, ℕ, Some, None, IsSome};
 ghost use Rattle.std.specs.Option.{ForSome};
-ghost use Rattle.prefix_trie.specs.Blocks.{Covers, bit_at};
-ghost use Rattle.prefix_trie.specs.Nodes.{node_at, child_of};
-ghost use Rattle.prefix_trie.specs.Trie.{IsTrie, IsOver, HaveTops, IsDeepest, IsStepTo, IsTopInside, IsNextAround, IsHolder};
+ghost use Rattle.prefix_trie.specs.Nodes.{node_at};
+ghost use Rattle.prefix_trie.specs.Trie.{IsTrie, IsOver, HaveTops, IsDeepest, IsStepTo, IsTopInside, IsNextAround, IsHolder, IsIdOf};
 ghost use Rattle.prefix_trie.specs.Sought.{part_of};
 
-use crate::blocks::{bit_at, covers, whole};
+use crate::blocks::whole;
 use crate::cell::Cell;
 use crate::node::{Node, node_at, top_below};
 use crate::place::Place;
+use crate::read::{covers_at, id_at, len_at, toward};
 use rule_model::Prefix;
 
 /// The deepest node that covers a block.
@@ -31,30 +31,19 @@ fn step(nodes: &[Cell], at: u32, block: &Prefix) -> Option<u32>
     requires here { IsOver nodes.now block.now at }
     ensures { ForSome (node_at nodes.now at) (λ node. IsStepTo nodes.now node block.now result) }
 {
-    let here = node_at(nodes, at);
-    if here.prefix.len() >= block.len() {
+    if len_at(nodes, at) >= block.len() {
         return None;
     }
-    match toward(&here, block).get() {
+    match toward(nodes, at, block).get() {
         None => None,
         Some(child) => {
-            let below = node_at(nodes, child);
-            if covers(&below.prefix, block) {
+            if covers_at(nodes, child, block) {
                 Some(child)
             } else {
                 None
             }
         }
     }
-}
-
-/// The child of a node on the side of a longer block.
-pub(crate) fn toward(node: &Node, block: &Prefix) -> Place
-    requires { node.now.prefix.len < block.now.len }
-    ensures { result ≡ child_of node.now (bit_at block.now.addr node.now.prefix.len) }
-{
-    let _len = block.len();
-    node.child(bit_at(block.addr(), node.prefix.len()))
 }
 
 /// The greatest slot of those strictly inside the prefix of a node.
@@ -99,6 +88,28 @@ pub(crate) fn nearest(nodes: &[Cell], from: u32, sought: Sought) -> Option<u32>
         at = next;
     }
     None
+}
+
+/// The id of the node of a prefix.
+pub(crate) fn id_of(nodes: &[Cell], block: &Prefix) -> Option<u32>
+    requires { IsTrie nodes.now }
+    ensures { IsIdOf nodes.now block.now result }
+{
+    id_in(nodes, deepest(nodes, block), block)
+}
+
+/// The id of the node of a prefix, where the deepest that covers it is known.
+pub(crate) fn id_in(nodes: &[Cell], at: u32, block: &Prefix) -> Option<u32>
+    requires trie { IsTrie nodes.now }
+    requires deep { IsDeepest nodes.now block.now at }
+    ensures { IsIdOf nodes.now block.now result }
+{
+    let _addr = block.addr();
+    if len_at(nodes, at) < block.len() {
+        None
+    } else {
+        id_at(nodes, at).get()
+    }
 }
 
 /// The id of the longest prefix that holds an address.

@@ -10,6 +10,7 @@ use Rattle.overlap_index.specs.Linked.{AreParts}
 use Rattle.overlap_index.specs.Sides.{AreOn}
 use Rattle.overlap_index.proofs.Linked.{on_others, pieces_size, not_upper, not_lower}
 use Rattle.overlap_index.proofs.Came.{live_more}
+use Rattle.overlap_index.proofs.Known.{route_absent}
 use Rattle.overlap_index.proofs.Parts.{parts_roomy, parts_more}
 use Rattle.overlap_index.proofs.Index.add.Goals as goal
 
@@ -17,12 +18,12 @@ use Rattle.overlap_index.proofs.Index.add.Goals as goal
 pub invariant_of-self-in_err-reserve-2 : goal.invariant_of-self-in_err-reserve-2
 invariant_of-self-in_err-reserve-2 c =
     rw c.reserve-2.ensures.items
-    (parts_roomy _ _ _ _ _ _ c.self.inside.edges c.reserve.new.self c.reserve.ensures.same c.reserve.ensures.ids c.self.invariant)
+    (parts_roomy _ _ _ _ _ _ _ c.self.inside.edges c.reserve.new.self c.reserve.ensures.same c.reserve.ensures.ids c.self.invariant)
 
 pub invariant_of-self-in_err-push : goal.invariant_of-self-in_err-push
 invariant_of-self-in_err-push c =
     rw (c.in_err-push.ensures.refused, c.reserve-2.ensures.items)
-    (parts_roomy _ _ _ _ _ _ c.self.inside.edges c.reserve.new.self c.reserve.ensures.same c.reserve.ensures.ids c.self.invariant)
+    (parts_roomy _ _ _ _ _ _ _ c.self.inside.edges c.reserve.new.self c.reserve.ensures.same c.reserve.ensures.ids c.self.invariant)
 
 abbrev one : ℕ → Piece → ℕ → LivePiece
 one id piece rank = record { id = id; piece = piece; rank = rank }
@@ -32,8 +33,8 @@ above_on c =
     subst (AreOn Above (one c.args.id c.args.piece.now c.args.priority) (live_after c.self.inside.history.items)) (sym c.deref.ensures.value)
     (subst (λ v. AreOn Above (one c.args.id c.args.piece.now c.args.priority) v.live c.in_ok-found.found.above.items) (sym c.self.view_is) c.in_ok-found.ensures.above)
 
-parts : (c : goal.After-deref) → AreParts c.self.inside.slots (live_after c.self.inside.history.items) c.self.inside.pieces.items c.self.inside.places.items c.self.inside.buckets c.self.inside.columns c.reserve.new.self
-parts c = parts_roomy _ _ _ _ _ _ c.self.inside.edges c.reserve.new.self c.reserve.ensures.same c.reserve.ensures.ids c.self.invariant
+parts : (c : goal.After-deref) → AreParts c.self.inside.slots (live_after c.self.inside.history.items) c.self.inside.pieces.items c.self.inside.places.items c.self.inside.buckets c.self.inside.columns c.self.inside.destinations c.reserve.new.self
+parts c = parts_roomy _ _ _ _ _ _ _ c.self.inside.edges c.reserve.new.self c.reserve.ensures.same c.reserve.ensures.ids c.self.invariant
 
 absent : (c : goal.After-deref) → is_live (live_after c.self.inside.history.items) c.args.id ≡ false
 absent c = subst (λ v. is_live v.live c.args.id ≡ false) (sym c.self.view_is) c.requires.absent
@@ -67,7 +68,7 @@ link_below-requires-clause-once c = (below_on c).once
 pub link_below-requires-clause-absent : goal.link_below-requires-clause-absent
 link_below-requires-clause-absent c lower among has =
     let live = live_after c.self.inside.history.items in
-    let roomy = parts_roomy _ _ _ _ _ _ c.self.inside.edges c.reserve.new.self c.reserve.ensures.same c.reserve.ensures.ids c.self.invariant in
+    let roomy = parts_roomy _ _ _ _ _ _ _ c.self.inside.edges c.reserve.new.self c.reserve.ensures.same c.reserve.ensures.ids c.self.invariant in
     elim ((c.link_above.ensures.linked c.args.id lower).0 has) [
       | inl old ↦ not_upper c.reserve.new.self live c.args.id lower roomy.links (absent-2 c) old
       | inr more ↦ (on_others Below (one c.args.id c.args.piece.now c.args.priority) c.self.inside.slots c.self.inside.slots live c.deref-2.result.now (below_on c) refl c.self.invariant.apart (absent-2 c) lower among).1 more.1
@@ -87,9 +88,9 @@ invariant_of-self-2 c =
     let size : vec_len c.reserve-2.new.self ≡ length c.reserve-2.new.self.items = first_of (search rules, grind (arith, common_steps)) in
     let len : c.len-3.result ≡ length i.pieces.items = c.len-3.ensures ∙ size ∙ ap length c.reserve-2.ensures.items in
     rw (after, len, c.push_reserved.ensures.items, c.reserve-2.ensures.items, c.in_ok-push.ensures.more, c.came.ensures)
-    (parts_more i.slots live i.pieces.items i.places.items i.buckets i.columns c.reserve.new.self c.link_above.new.edges c.link_below.new.edges new c.deref.result.now c.deref-2.result.now small absent above below
-    c.link_above.ensures.linked c.link_below.ensures.linked (c.link_below.ensures.ids ∙ c.link_above.ensures.ids)
-    (parts_roomy _ _ _ _ _ _ i.edges c.reserve.new.self c.reserve.ensures.same c.reserve.ensures.ids c.self.invariant))
+    (parts_more i.slots live i.pieces.items i.places.items i.buckets i.columns i.destinations c.enter.new.self c.reserve.new.self c.link_above.new.edges c.link_below.new.edges new c.deref.result.now c.deref-2.result.now small absent above below
+    c.link_above.ensures.linked c.link_below.ensures.linked (c.link_below.ensures.ids ∙ c.link_above.ensures.ids) c.enter.ensures
+    (parts_roomy _ _ _ _ _ _ _ i.edges c.reserve.new.self c.reserve.ensures.same c.reserve.ensures.ids c.self.invariant))
 
 pub returns-clause-live : goal.returns-clause-live
 returns-clause-live c =
@@ -109,3 +110,14 @@ pub came-requires : goal.came-requires
 came-requires c =
     let small = subst (λ v. c.args.id < v.slots) (sym c.self.view_is) c.requires.small in
     subst (λ n. c.args.id < n) (sym c.self.invariant.found.size) small
+
+pub enter-requires-clause-small : goal.enter-requires-clause-small
+enter-requires-clause-small c routes is =
+    let small = subst (λ v. c.args.id < v.slots) (sym c.self.view_is) c.requires.small in
+    subst (λ n. c.args.id < n) (sym (c.self.invariant.known routes is).many) small
+
+pub enter-requires-clause-absent : goal.enter-requires-clause-absent
+enter-requires-clause-absent c routes is =
+    let i = c.self.inside in
+    let absent = subst (λ v. is_live v.live c.args.id ≡ false) (sym c.self.view_is) c.requires.absent in
+    route_absent i.slots (live_after i.history.items) routes (c.self.invariant.known routes is) c.args.id absent

@@ -5,6 +5,7 @@ use Rattle.overlap_index.specs.Changes.{live_after}
 use Rattle.placement.specs.Live.{is_live, without_id}
 use Rattle.overlap_index.proofs.Linked.{live_small}
 use Rattle.overlap_index.proofs.Came.{live_more}
+use Rattle.overlap_index.proofs.Known.{route_present}
 use Rattle.overlap_index.proofs.InBuckets.{ends_at}
 use Rattle.overlap_index.proofs.Parts.{parts_less}
 use Rattle.overlap_index.proofs.Placed.{Closes, reads_place, last_small}
@@ -101,9 +102,15 @@ invariant_of-self c =
       others = λ k d apart l. c.swap_remove.ensures.by_index.1 k d apart (omega arith);
     } in
     rw (after, c.remove.ensures, c.went.ensures)
-    (parts_less i.slots c.args.id c.piece_of.result.now (live_after i.history.items) i.pieces.items c.swap_remove.new.self.items i.places.items i.buckets i.columns i.edges c.drop_node.new.self c.index.result.now c.index-2.result.now c.swap_remove.result
-    (subst (λ v. Contains v.live c.piece_of.result.now) (sym c.self.view_is) c.piece_of.ensures.live) c.piece_of.ensures.id at.is (sym end) c.swap_remove.ensures.items closes c.drop_node.ensures.gone c.drop_node.ensures.ids c.self.invariant)
+    (parts_less i.slots c.args.id c.piece_of.result.now (live_after i.history.items) i.pieces.items c.swap_remove.new.self.items i.places.items i.buckets i.columns i.destinations c.leave.new.self i.edges c.drop_node.new.self c.index.result.now c.index-2.result.now c.swap_remove.result
+    (subst (λ v. Contains v.live c.piece_of.result.now) (sym c.self.view_is) c.piece_of.ensures.live) c.piece_of.ensures.id at.is (sym end) c.swap_remove.ensures.items closes c.drop_node.ensures.gone c.drop_node.ensures.ids c.leave.ensures c.self.invariant)
 
 pub returns-clause-live : goal.returns-clause-live
 returns-clause-live c =
     ap live_after c.and-self-inside.ensures ∙ live_more c.self.inside.history.items (Went c.args.id) ∙ ap (λ v. without_id v.live c.args.id) c.self.view_is
+
+pub leave-requires : goal.leave-requires
+leave-requires c routes is =
+    let i = c.self.inside in
+    let live = subst (λ v. is_live v.live c.args.id ≡ true) (sym c.self.view_is) c.requires in
+    route_present i.slots (live_after i.history.items) routes (c.self.invariant.known routes is) c.args.id live

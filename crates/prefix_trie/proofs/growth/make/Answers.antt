@@ -9,7 +9,7 @@ use Rattle.prefix_trie.proofs.Made.{entries-trans, entries-self, made_here, made
 use Rattle.prefix_trie.proofs.growth.make.Goals as goal
 
 pub node_at-here-requires : goal.node_at-here-requires
-node_at-here-requires c = ap is_some c.deepest-at.ensures.is
+node_at-here-requires c = ap is_some c.requires.deep.is
 
 pub returns-then-len-clause-entries : goal.returns-then-len-clause-entries
 returns-then-len-clause-entries c = entries-self c.args.nodes.now
@@ -19,34 +19,34 @@ returns-then-len-clause-made c =
     let test = c.if-len.true in
     let a = c.len.ensures.value in
     let b = c.len-2.ensures.value in
-    made_here c.args.nodes.now c.deepest-at.result c.node_at-here.result c.args.prefix.now c.requires.trie c.deepest-at.ensures c.node_at-here.ensures c.addr-addr.ensures.block (omega arith)
+    made_here c.args.nodes.now c.args.at c.node_at-here.result c.args.prefix.now c.requires.trie c.requires.deep c.node_at-here.ensures c.addr-addr.ensures.block (omega arith)
 
 pub attach-requires-clause-gap : goal.attach-requires-clause-gap
 attach-requires-clause-gap c =
     let bit : c.bit_at-bit.result ≡ bit_at c.args.prefix.now.addr c.node_at-here.result.prefix.len = cc in
     let none : child_of c.node_at-here.result (bit_at c.args.prefix.now.addr c.node_at-here.result.prefix.len) ≡ None = ap (child_of c.node_at-here.result) (sym bit) ∙ (sym c.child.ensures ∙ (sym c.get.ensures ∙ c.in_default.is)) in
-    subst (λ (b : Bool). HasGap c.args.nodes.now c.deepest-at.result b c.args.prefix.now) (sym bit)
-    (gap_leaf c.args.nodes.now c.deepest-at.result c.node_at-here.result c.args.prefix.now c.requires.trie c.deepest-at.ensures c.node_at-here.ensures (λ same. c.if-len.false (cc)) none)
+    subst (λ (b : Bool). HasGap c.args.nodes.now c.args.at b c.args.prefix.now) (sym bit)
+    (gap_leaf c.args.nodes.now c.args.at c.node_at-here.result c.args.prefix.now c.requires.trie c.requires.deep c.node_at-here.ensures (λ same. c.if-len.false (cc)) none)
 
 pub returns-in_default-clause-made : goal.returns-in_default-clause-made
 returns-in_default-clause-made c =
-    made_there c.args.nodes.now c.attach.new.nodes c.deepest-at.result c.args.first c.bit_at-bit.result c.args.prefix.now c.node_at-here.result (c.attach.ensures.attached c.node_at-here.result c.node_at-here.ensures)
+    made_there c.args.nodes.now c.attach.new.nodes c.args.at c.args.first c.bit_at-bit.result c.args.prefix.now c.node_at-here.result (c.attach.ensures.attached c.node_at-here.result c.node_at-here.ensures)
 
 pub node_at-requires : goal.node_at-requires
 node_at-requires c =
-    ap is_some (c.requires.trie.children c.deepest-at.result c.in-Some.child c.bit_at-bit.result c.node_at-here.result c.node_at-here.ensures (sym c.child.ensures ∙ (sym c.get.ensures ∙ c.in-Some.is))).is
+    ap is_some (c.requires.trie.children c.args.at c.in-Some.child c.bit_at-bit.result c.node_at-here.result c.node_at-here.ensures (sym c.child.ensures ∙ (sym c.get.ensures ∙ c.in-Some.is))).is
 
 pub attach-requires-2-clause-gap : goal.attach-requires-2-clause-gap
 attach-requires-2-clause-gap c =
     let bit : c.bit_at-bit.result ≡ bit_at c.args.prefix.now.addr c.node_at-here.result.prefix.len = cc in
     let link : child_of c.node_at-here.result (bit_at c.args.prefix.now.addr c.node_at-here.result.prefix.len) ≡ Some c.in-Some.child = ap (child_of c.node_at-here.result) (sym bit) ∙ (sym c.child.ensures ∙ (sym c.get.ensures ∙ c.in-Some.is)) in
-    subst (λ (b : Bool). HasGap c.args.nodes.now c.deepest-at.result b c.meet-fork.result) (sym bit)
-    (gap_fork c.args.nodes.now c.deepest-at.result c.node_at-here.result c.args.prefix.now c.requires.trie c.deepest-at.ensures c.node_at-here.ensures (λ same. c.if-len.false (cc)) c.in-Some.child c.node_at.result c.meet-fork.result c.addr-addr.ensures.block link c.node_at.ensures c.meet-fork.ensures)
+    subst (λ (b : Bool). HasGap c.args.nodes.now c.args.at b c.meet-fork.result) (sym bit)
+    (gap_fork c.args.nodes.now c.args.at c.node_at-here.result c.args.prefix.now c.requires.trie c.requires.deep c.node_at-here.ensures (λ same. c.if-len.false (cc)) c.in-Some.child c.node_at.result c.meet-fork.result c.addr-addr.ensures.block link c.node_at.ensures c.meet-fork.ensures)
 
 pub returns-then-len-2-clause-made : goal.returns-then-len-2-clause-made
 returns-then-len-2-clause-made c =
     let same : c.meet-fork.result.len ≡ c.args.prefix.now.len = cc in
-    made_fork c.args.nodes.now c.attach-2.new.nodes c.deepest-at.result c.args.first c.bit_at-bit.result c.args.prefix.now c.node_at.result.prefix c.meet-fork.result c.node_at-here.result (c.attach-2.ensures.attached c.node_at-here.result c.node_at-here.ensures)
+    made_fork c.args.nodes.now c.attach-2.new.nodes c.args.at c.args.first c.bit_at-bit.result c.args.prefix.now c.node_at.result.prefix c.meet-fork.result c.node_at-here.result (c.attach-2.ensures.attached c.node_at-here.result c.node_at-here.ensures)
     c.meet-fork.ensures c.addr-addr.ensures.block same
 
 pub attach-requires-3-clause-few : goal.attach-requires-3-clause-few
@@ -54,7 +54,7 @@ attach-requires-3-clause-few c = let size = c.attach-2.auto.nodes in let few = c
 
 pub attach-requires-3-clause-room : goal.attach-requires-3-clause-room
 attach-requires-3-clause-room c =
-    room_second c.args.nodes.now c.attach-2.new.nodes c.deepest-at.result c.args.first c.args.second c.bit_at-bit.result c.meet-fork.result c.node_at-here.result c.attach-2.ensures.trie (c.attach-2.ensures.attached c.node_at-here.result c.node_at-here.ensures) c.requires.second c.attach-2.auto.nodes
+    room_second c.args.nodes.now c.attach-2.new.nodes c.args.at c.args.first c.args.second c.bit_at-bit.result c.meet-fork.result c.node_at-here.result c.attach-2.ensures.trie (c.attach-2.ensures.attached c.node_at-here.result c.node_at-here.ensures) c.requires.second c.attach-2.auto.nodes
 
 pub attach-requires-3-clause-gap : goal.attach-requires-3-clause-gap
 attach-requires-3-clause-gap c =
@@ -62,11 +62,11 @@ attach-requires-3-clause-gap c =
     let second : c.bit_at.result ≡ bit_at c.args.prefix.now.addr c.meet-fork.result.len = cc in
     let link_at : child_of c.node_at-here.result c.bit_at-bit.result ≡ Some c.in-Some.child = sym c.child.ensures ∙ (sym c.get.ensures ∙ c.in-Some.is) in
     let link : child_of c.node_at-here.result (bit_at c.args.prefix.now.addr c.node_at-here.result.prefix.len) ≡ Some c.in-Some.child = ap (child_of c.node_at-here.result) (sym bit) ∙ link_at in
-    let gap = gap_fork c.args.nodes.now c.deepest-at.result c.node_at-here.result c.args.prefix.now c.requires.trie c.deepest-at.ensures c.node_at-here.ensures (λ same. c.if-len.false (cc)) c.in-Some.child c.node_at.result c.meet-fork.result c.addr-addr.ensures.block link c.node_at.ensures c.meet-fork.ensures in
-    let gap_here = one_node c.args.nodes.now c.deepest-at.result c.node_at-here.result gap.node c.node_at-here.ensures gap.is in
+    let gap = gap_fork c.args.nodes.now c.args.at c.node_at-here.result c.args.prefix.now c.requires.trie c.requires.deep c.node_at-here.ensures (λ same. c.if-len.false (cc)) c.in-Some.child c.node_at.result c.meet-fork.result c.addr-addr.ensures.block link c.node_at.ensures c.meet-fork.ensures in
+    let gap_here = one_node c.args.nodes.now c.args.at c.node_at-here.result gap.node c.node_at-here.ensures gap.is in
     let inner : IsInside c.meet-fork.result c.node_at.result.prefix = gap.inner c.in-Some.child c.node_at.result (ap (λ (n : Node). child_of n (bit_at c.args.prefix.now.addr c.node_at-here.result.prefix.len)) (sym gap_here) ∙ link) c.node_at.ensures in
     subst (λ (b : Bool). HasGap c.attach-2.new.nodes c.args.first b c.args.prefix.now) (sym second)
-    (gap_second c.args.nodes.now c.attach-2.new.nodes c.deepest-at.result c.args.first c.in-Some.child c.bit_at-bit.result c.args.prefix.now c.meet-fork.result c.node_at-here.result c.node_at.result c.addr-addr.ensures.block
+    (gap_second c.args.nodes.now c.attach-2.new.nodes c.args.at c.args.first c.in-Some.child c.bit_at-bit.result c.args.prefix.now c.meet-fork.result c.node_at-here.result c.node_at.result c.addr-addr.ensures.block
     (c.attach-2.ensures.attached c.node_at-here.result c.node_at-here.ensures) link_at c.node_at.ensures c.meet-fork.ensures inner (λ same. c.if-len-2.false (cc)))
 
 pub returns-clause-entries : goal.returns-clause-entries
