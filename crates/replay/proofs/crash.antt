@@ -1,8 +1,9 @@
--- A commit that crashes, up to there and over it.
+-- A commit that is turned, up to there and over it.
 pub mod Anew
 pub mod Coming
 pub mod Crashed
 pub mod Onward
 pub mod Over
 pub mod RestOnward
-pub mod ToCrash
+pub mod TakenBack
+pub mod ToTurn

@@ -1,5 +1,5 @@
 -- What comes of the actions that are left of a commit under way: all are made, or they stop at a write or at a line.
-use Rattle.std.specs.Prelude.{◌≡◌, ◌⊎◌, ℕ, ◌+◌, ◌-◌, ◌++◌, ◌∷◌, Bool, true, false, Option, None, Some, Result, Ok, Err, List, length}
+use Rattle.std.specs.Prelude.{◌≡◌, ◌⊎◌, ℕ, ◌+◌, ◌++◌, ◌∷◌, Bool, true, false, Option, None, Some, List, length}
 use Rattle.std.specs.Io.KnownBytes.{Appends}
 use Rattle.tcam_device.specs.declared.Write.{Write}
 use Rattle.tcam_device.specs.declared.Action.{Action}
@@ -8,10 +8,10 @@ use Rattle.tcam_device.specs.State.{replay, state_after}
 use Rattle.tcam_device.specs.Flight.{writes_in}
 use Rattle.commit_writes.specs.declared.Done.{Done}
 use Rattle.batch_order.specs.Managed.{Managed, HeldCommit}
-use Rattle.batch_order.specs.Steps.{next_of}
+use Rattle.batch_order.specs.Steps.{is_back, next_of}
 use Rattle.replay.specs.declared.watch.Count.{Count}
 use Rattle.replay.specs.declared.fate.Fate.{Fate}
-use Rattle.replay.specs.declared.fate.Fate.TheVariants.{ToTheEnd, BackAfter, CrashAfter, RestartedAfter}
+use Rattle.replay.specs.declared.fate.Fate.TheVariants.{Finishes, Turns, Turned}
 use Rattle.replay.specs.declared.steps.Ended.{Ended}
 use Rattle.replay.specs.declared.steps.Ended.TheVariants as ended
 use Rattle.replay.specs.Effects.{Setting, Effect, effects_of, printed, probes_told, waiting_after}
@@ -21,7 +21,7 @@ use Rattle.replay.specs.declared.RunFault.{RunFault}
 use Rattle.replay.specs.declared.RunFault.TheVariants.{Sink, Device}
 use Rattle.replay.specs.Carried.{CutsEffects}
 use Rattle.replay.specs.Outside.{Outside}
-use Rattle.replay.specs.Running.{Watching, trial_rest, goes_back, actions_left, MakesSome}
+use Rattle.replay.specs.Running.{Watching, MakesSome}
 
 -- what is told while a manager makes the writes of its commit
 abbrev pub telling : Managed → Watching → Setting
@@ -54,19 +54,18 @@ TellsActions manager watch device_slots count before made taken_old taken_new =
     Appends taken_old taken_new (printed (effects_on manager watch device_slots count before made))
 
 -- a commit ended with these actions: it is finished, or taken back
-abbrev pub EndsBy : Bool → Managed → HeldCommit → List Action → Ended → Managed → Type 0
-EndsBy back begun held actions (ended.Finished done) now =
-    (back ≡ false) × (done ≡ held.counts)
+abbrev pub EndsBy : Managed → HeldCommit → List Action → Ended → Managed → Type 0
+EndsBy begun held actions (ended.Finished done) now =
+    (is_back held.way ≡ false) × (done ≡ held.counts)
     × (now ≡ record begun { state = state_after begun.state (writes_in actions); rules = held.rules; bits = held.bits; held = None })
-EndsBy back begun held actions ended.Reverted now =
-    (back ≡ true) × (now ≡ record begun { state = state_after begun.state (writes_in actions); held = None })
+EndsBy begun held actions ended.Reverted now =
+    (is_back held.way ≡ true) × (now ≡ record begun { state = state_after begun.state (writes_in actions); held = None })
 
 -- the line of one that finished
 abbrev pub finished_line : Bool → Bool → ℕ → Fate → Done → ℕ → List ℕ
-finished_line json early commit ToTheEnd done writes = done_line json early commit done
-finished_line json early commit (BackAfter most) done writes = done_line json early commit done
-finished_line json early commit (CrashAfter after) done writes = done_line json early commit done
-finished_line json early commit (RestartedAfter after) done writes = restarted_line commit after writes
+finished_line json early commit Finishes done writes = done_line json early commit done
+finished_line json early commit (Turns after then) done writes = done_line json early commit done
+finished_line json early commit (Turned after then) done writes = restarted_line commit after writes
 
 -- its line, by its number, by what became of it, and by its writes
 abbrev pub ended_line : Bool → Bool → ℕ → Fate → Ended → ℕ → List ℕ
@@ -84,19 +83,19 @@ snapshot manager count out = record { manager = manager; count = count; out = ou
 
 -- All of them are made, and told where the device and the words in flight were as they should be when they began
 -- (`Seen`).
-pub record MakesAll (Seen : Type 0) (most : Option ℕ) (watch : Watching) (device_slots : ℕ) (begun : Snapshot) (ended : Ended) (now : Snapshot) : Type 0 where
+pub record MakesAll (Seen : Type 0) (watch : Watching) (device_slots : ℕ) (begun : Snapshot) (ended : Ended) (now : Snapshot) : Type 0 where
   pub held : HeldCommit
   pub actions : List Action
   pub held_is : begun.manager.held ≡ Some held
-  pub actions_are : actions ≡ actions_left (trial_rest most begun.count.told) begun.manager.state held
-  pub ends : EndsBy (goes_back (trial_rest most begun.count.told) held) begun.manager held actions ended now.manager
+  pub actions_are : actions ≡ held.actions
+  pub ends : EndsBy begun.manager held actions ended now.manager
   pub come : HasCome watch begun.count now.count actions
   pub events : now.out.events ≡ begun.out.events ++ actions
   pub report : Seen → TellsActions begun.manager watch device_slots begun.count begun.out.events actions begun.out.taken now.out.taken
 
 -- some of them are made and told, and the next one, a write, isn't made
-pub record StopsAtWrite (Seen : Type 0) (most : Option ℕ) (watch : Watching) (device_slots : ℕ) (begun now : Snapshot) : Type 0 where
-  pub some : MakesSome most begun.count.told begun.manager now.manager
+pub record StopsAtWrite (Seen : Type 0) (watch : Watching) (device_slots : ℕ) (begun now : Snapshot) : Type 0 where
+  pub some : MakesSome begun.manager now.manager
   pub due : Write
   pub left : List Action
   pub left_is : some.left ≡ Written due ∷ left
@@ -106,8 +105,8 @@ pub record StopsAtWrite (Seen : Type 0) (most : Option ℕ) (watch : Watching) (
   pub report : Seen → TellsActions begun.manager watch device_slots begun.count begun.out.events some.made begun.out.taken now.out.taken
 
 -- some of them are made, and a line of the last one, or of the drain that is next, isn't told whole
-pub record StopsAtLine (Seen : Type 0) (most : Option ℕ) (watch : Watching) (device_slots : ℕ) (begun now : Snapshot) : Type 0 where
-  pub some : MakesSome most begun.count.told begun.manager now.manager
+pub record StopsAtLine (Seen : Type 0) (watch : Watching) (device_slots : ℕ) (begun now : Snapshot) : Type 0 where
+  pub some : MakesSome begun.manager now.manager
   pub come : HasCome watch begun.count now.count some.made
   pub events : now.out.events ≡ begun.out.events ++ some.made
   pub cuts : Seen → CutsEffects (effects_on begun.manager watch device_slots begun.count begun.out.events (some.made ++ some.left)) begun.out.events now.out.events begun.out.taken now.out.taken
@@ -115,9 +114,3 @@ pub record StopsAtLine (Seen : Type 0) (most : Option ℕ) (watch : Watching) (d
 -- a fault is the sink's, and then this, or the device's, and then that
 abbrev pub FailsBy : Type 0 → Type 0 → RunFault → Type 0
 FailsBy AtLine AtWrite why = ((why ≡ Sink) × AtLine) ⊎ ((why ≡ Device) × AtWrite)
-
--- what comes of the actions that are left of a commit under way, by the answer
-abbrev pub Makes : Type 0 → Option ℕ → Watching → ℕ → Snapshot → Snapshot → Result Ended RunFault → Type 0
-Makes Seen most watch device_slots begun now (Ok ended) = MakesAll Seen most watch device_slots begun ended now
-Makes Seen most watch device_slots begun now (Err why) =
-    FailsBy (StopsAtLine Seen most watch device_slots begun now) (StopsAtWrite Seen most watch device_slots begun now) why

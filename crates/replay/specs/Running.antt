@@ -1,5 +1,5 @@
 -- What a run keeps, and where it stands by that.
-use Rattle.std.specs.Prelude.{◌≡◌, ◌≢◌, ◌⊎◌, ℕ, ◌+◌, ◌-◌, ◌*◌, nat_lt, nat_le, ◌&&◌, map, option_map, ◌^◌, ◌<◌, ◌≤◌, ◌++◌, ◌∷◌, Bool, true, false, Option, None, Some, IsSome, IfSome, Result, Ok, Err, List, [], length, take, codes}
+use Rattle.std.specs.Prelude.{◌≡◌, ◌≢◌, ◌⊎◌, ℕ, ◌+◌, ◌-◌, ◌*◌, ◌^◌, ◌<◌, ◌≤◌, ◌++◌, ◌∷◌, Bool, true, false, Option, None, Some, IsSome, Result, Ok, Err, List, [], length, take, codes}
 use Rattle.std.specs.List.{AllByRecursion}
 use Rattle.slot_order.specs.Order.{most_slots}
 use Rattle.rule_model.specs.declared.Key.{Key}
@@ -10,17 +10,16 @@ use Rattle.rule_store.specs.declared.Command.{Command as Change}
 use Rattle.rule_store.specs.Verdict.{Verdict, Accepted, verdict}
 use Rattle.tcam_device.specs.declared.Write.{Write}
 use Rattle.tcam_device.specs.declared.Action.{Action}
-use Rattle.tcam_device.specs.declared.Action.TheVariants.{Written}
 use Rattle.tcam_device.specs.State.{State, Shows, state_after, on_device}
 use Rattle.tcam_device.specs.Flight.{Flight, writes_in}
 use Rattle.commit_writes.specs.declared.Done.{Done}
 use Rattle.commit_writes.specs.Routes.{IsRoute}
-use Rattle.commit_writes.specs.Actions.{commit_actions, up_to_writes}
+use Rattle.commit_writes.specs.Actions.{back_from, commit_actions, up_to_writes}
+use Rattle.commit_writes.specs.Bits.{FieldBits}
 use Rattle.commit_writes.specs.Undo.{undo_writes}
 use Rattle.batch_order.specs.declared.Placement.{Placement}
-use Rattle.batch_order.specs.Managed.{Managed, HeldCommit, Holds, OnlyChangesRoutes, Way, fresh}
+use Rattle.batch_order.specs.Managed.{Managed, HeldCommit, Holds, OnlyChangesRoutes, Way, commit_of, fresh}
 use Rattle.batch_order.specs.Managed.Way.{On, Back}
-use Rattle.batch_order.specs.Steps.{going_back}
 use Rattle.readback.specs.declared.Parts.{Parts}
 use Rattle.batch_order.specs.Restart.{ArePartsOf, Resumes}
 use Rattle.replay.specs.declared.Act.{Act}
@@ -30,7 +29,8 @@ use Rattle.settled_changes.specs.declared.requested.Requested.TheVariants.{Nothi
 use Rattle.settled_changes.specs.Requested.{strict_form}
 use Rattle.replay.specs.AskedRoutes.{OnlyAsksRoutes}
 use Rattle.replay.specs.declared.fate.Fate.{Fate}
-use Rattle.replay.specs.declared.fate.Fate.TheVariants.{ToTheEnd, RestartedAfter}
+use Rattle.replay.specs.declared.fate.Fate.TheVariants.{Finishes, Turns, Turned}
+use Rattle.replay.specs.declared.fate.Then.TheVariants as thens
 use Rattle.report_lines.specs.declared.Family.{Family}
 use Rattle.report_lines.specs.declared.Family.TheVariants.{Route, Acl, Route6, Acl6}
 use Rattle.replay.specs.Effects.{Setting, probes_told, waiting_after}
@@ -38,7 +38,7 @@ use Rattle.trace_file.specs.Forms.{IsTraceLineOf}
 use Rattle.replay.specs.JsonLines.{change_line}
 use Rattle.replay.specs.InFlight.{AreOf}
 use Rattle.replay.specs.Run.{Progress}
-use Rattle.replay.specs.Fates.{IsBefore, IsFirst, IsWithinCrash, crash_of, most_of}
+use Rattle.replay.specs.Fates.{IsBefore, IsFirst, IsWithinTurn, turn_of}
 use Rattle.replay.specs.declared.ActFault.{ActFault}
 use Rattle.replay.specs.declared.ActFault.TheVariants.{BatchFull, ChangesPending, ProbesFull, Held, Stopped}
 use Rattle.replay.specs.declared.RunFault.{RunFault}
@@ -135,7 +135,7 @@ begun slots mode placement family trace depth json names =
       early = false;
       told = 0;
       waiting = 0;
-      fate = ToTheEnd;
+      fate = Finishes;
       broken = false;
     }
 
@@ -152,88 +152,56 @@ verdict_of run = verdict run.manager.slots run.manager.mode run.manager.rules ru
 abbrev pub HoldsPending : Running → Type 0
 HoldsPending run = (counts : Done) × Holds (record run.manager { held = None }) run.pending counts run.manager
 
--- how many writes more a trial makes before it is taken back
-abbrev pub trial_rest : Option ℕ → ℕ → Option ℕ
-trial_rest most told = option_map (λ limit. limit - told) most
+-- on the way on what undoes some writes is kept
+abbrev pub way_after : State → List Write → Way → Way
+way_after state writes (On undo) = On (undo_writes state writes ++ undo)
+way_after state writes (Back undone) = Back undone
 
--- the first actions of a trial, up to so many writes more, and those that undo all
-abbrev pub trial_left : ℕ → State → List Action → List Write → List Action
-trial_left more state actions undo =
-    let front = up_to_writes more actions in
-    front ++ map Written (undo_writes state (writes_in front) ++ undo)
-
--- Whether a commit is taken back: it is turned round, or it is a trial that has more writes than it may make.
-abbrev pub turns_back : Way → Option ℕ → List Action → Bool
-turns_back (Back undone) rest actions = true
-turns_back (On undo) None actions = false
-turns_back (On undo) (Some more) actions = nat_lt more (length (writes_in actions))
-
-abbrev pub goes_back : Option ℕ → HeldCommit → Bool
-goes_back rest held = turns_back held.way rest held.actions
-
--- the actions that are left of it, on the way there and on the way back
-abbrev pub left_in : Way → Option ℕ → State → List Action → List Action
-left_in (Back undone) rest state actions = actions
-left_in (On undo) None state actions = actions
-left_in (On undo) (Some more) state actions =
-    elim (nat_lt more (length (writes_in actions))) [ true ↦ trial_left more state actions undo | false ↦ actions ]
-
-abbrev pub actions_left : Option ℕ → State → HeldCommit → List Action
-actions_left rest state held = left_in held.way rest state held.actions
-
--- a commit that isn't turned round is, where it is time
-abbrev pub turned_back : Managed → HeldCommit → Way → Bool → Managed
-turned_back old held (Back undone) due = old
-turned_back old held (On undo) false = old
-turned_back old held (On undo) true = record old { held = Some (going_back held undo) }
-
--- a trial is of a commit that can be taken back
-abbrev pub MayTurnBack : Option ℕ → Option HeldCommit → Type 0
-MayTurnBack None held = Unit {0}
-MayTurnBack (Some limit) held = IfSome held (λ one. one.prepared ≡ true)
-
--- a trial that has made as many writes as it may, and has more to make, is turned round
-abbrev pub TurnsBackAt : Option ℕ → ℕ → Managed → Option HeldCommit → Managed → Type 0
-TurnsBackAt None told old held new = new ≡ old
-TurnsBackAt (Some limit) told old None new = new ≡ old
-TurnsBackAt (Some limit) told old (Some held) new =
-    new ≡ turned_back old held held.way (nat_le limit told && nat_lt 0 (length (writes_in held.actions)))
-
--- the commit is the same, and is taken back where it was to be
-pub record IsSame (rest rest_now : Option ℕ) (held now : HeldCommit) : Type 0 where
-  pub prepared : now.prepared ≡ held.prepared
-  pub counts : now.counts ≡ held.counts
-  pub rules : now.rules ≡ held.rules
-  pub during : now.during ≡ held.during
-  pub bits : now.bits ≡ held.bits
-  pub back : goes_back rest_now now ≡ goes_back rest held
+-- a commit of which these actions are made, and those are left
+abbrev pub held_after : State → HeldCommit → List Action → List Action → FieldBits → HeldCommit
+held_after state held made left current = record held { actions = left; way = way_after state (writes_in made) held.way; current = current }
 
 -- some of the actions that are left of a commit under way are made, and the others are left of it
-pub record MakesSome (most : Option ℕ) (told : ℕ) (begun now : Managed) : Type 0 where
+pub record MakesSome (begun now : Managed) : Type 0 where
   pub held : HeldCommit
   pub made : List Action
   pub left : List Action
+  pub current : FieldBits
   pub held_is : begun.held ≡ Some held
-  pub whole : actions_left (trial_rest most told) begun.state held ≡ made ++ left
-  pub one : HeldCommit
-  pub now_is : now ≡ record begun { state = state_after begun.state (writes_in made); held = Some one }
-  pub left_is : actions_left (trial_rest most (told + length (writes_in made))) now.state one ≡ left
-  pub same : IsSame (trial_rest most told) (trial_rest most (told + length (writes_in made))) held one
+  pub whole : held.actions ≡ made ++ left
+  pub now_is : now ≡ record begun { state = state_after begun.state (writes_in made); held = Some (held_after begun.state held made left current) }
+
+-- a commit that is taken back behind so many writes, from the first of these to the last that undoes them
+abbrev pub there_and_back : ℕ → State → HeldCommit → HeldCommit
+there_and_back after state held =
+    let front = up_to_writes after held.actions in
+    record held { actions = back_from state front; way = Back (length (undo_writes state (writes_in front))) }
+
+-- a commit from its first action to its last, by what becomes of it
+abbrev pub course_held : Fate → State → HeldCommit → HeldCommit
+course_held Finishes state held = held
+course_held (Turns after then) state held = held
+course_held (Turned after thens.Back) state held = there_and_back after state held
+course_held (Turned after thens.Restart) state held = held
+
+abbrev pub course_of : Fate → Managed → HeldCommit → Managed
+course_of fate begun held = record begun { held = Some (course_held fate begun.state held) }
 
 -- A commit is unfinished: what was asked for is settled, it was accepted, some of its writes were made, and the rest of
--- them is held. Where it crashes it has not come further.
+-- them is held. Where it is to be turned it has not come further, and where it was taken back those that undo them are
+-- among them.
 pub record IsHalfway (run : Running) : Type 0 where
   pub begun : Managed
-  pub first : IsFirst run.fate
   pub plain : run.asked ≡ Nothing
   pub holds : HoldsPending (record run { manager = begun })
   pub accepted : verdict_of (record run { manager = begun }) ≡ Accepted
   pub shows : ShowsRules (record begun { held = None })
-  pub some : MakesSome (most_of run.fate) 0 begun run.manager
+  pub first : IsFirst run.fate (length holds.1.made)
+  pub some : MakesSome (course_of run.fate begun (commit_of begun run.pending holds.1.made holds.0)) run.manager
   pub told : run.told ≡ length (writes_in some.made)
   pub waiting : run.waiting ≡ waiting_after run.depth 0 some.made
-  pub before : IsBefore (crash_of run.fate) 0 some.made some.left
-  pub within : IsWithinCrash (crash_of run.fate) run.told
+  pub before : IsBefore (turn_of run.fate) 0 some.made some.left
+  pub within : IsWithinTurn (turn_of run.fate) run.told
 
 -- the actions of a commit up to its crash
 abbrev pub first_actions : Running → Managed → List Write → ℕ → List Action
@@ -243,7 +211,7 @@ first_actions run begun made after = up_to_writes after (commit_actions begun.mo
 -- another manager held the rest by what the device showed, and some of it was made.
 pub record IsOnward (device_slots : ℕ) (run : Running) : Type 0 where
   pub after : ℕ
-  pub fate_is : run.fate ≡ RestartedAfter after
+  pub fate_is : run.fate ≡ Turned after thens.Restart
   pub plain : run.asked ≡ Nothing
   pub begun : Managed
   pub holds : HoldsPending (record run { manager = begun })
@@ -256,7 +224,7 @@ pub record IsOnward (device_slots : ℕ) (run : Running) : Type 0 where
   pub restarted : Managed
   pub resumes : Resumes begun.slots begun.mode begun.placement parts run.pending device_slots
       (state_after (on_device device_slots begun.state) (take after holds.1.made)) restarted
-  pub some : MakesSome None after restarted run.manager
+  pub some : MakesSome restarted run.manager
   pub told : run.told ≡ after + length (writes_in some.made)
   pub waiting : run.waiting ≡ waiting_after run.depth 0 (first_actions run begun holds.1.made after ++ some.made)
 
@@ -281,7 +249,7 @@ pub record IsRun (run : Running) : Type 0 where
   pub few : run.writes ≤ run.commits * (2 ^ 40 - 1)
   pub shows : ShowsRules run.manager
   pub halfway : IsSome run.manager.held → IsMidCommit run
-  pub idle : run.manager.held ≡ None → (run.told ≡ 0) × (run.waiting ≡ 0) × (run.fate ≡ ToTheEnd)
+  pub idle : run.manager.held ≡ None → (run.told ≡ 0) × (run.waiting ≡ 0) × (run.fate ≡ Finishes)
 
 -- a change in a script of the family: a route that is added is one of its version, and an access list takes any rule
 abbrev pub IsChangeOf : Family → Change → Type 0

@@ -1,6 +1,6 @@
-//! A commit under way is carried out: by its manager to the end, or by two of them where it crashes between.
+//! A commit under way is carried out to its end, over its turn: there it is taken back, or another manager goes on with it.
 
-ghost use Rattle.std.specs.Prelude.{Bool, true, false, ◌≡◌, ◌≢◌, ◌⊎◌, ◌+◌, ◌<◌, ◌≤◌, ◌^◌, [], List, Ok, Err, IsSome, IsNone, IfSome, IfErr, OnOk, OnErr, None, Some};
+ghost use Rattle.std.specs.Prelude.{Bool, true, false, ◌≡◌, ◌≢◌, ◌⊎◌, ◌+◌, ◌<◌, ◌≤◌, ◌^◌, ℕ, [], List, Ok, Err, IsSome, IsNone, IfSome, IfErr, OnOk, OnErr, None, Some};
 ghost use Rattle.script_lines.specs.Given.{counted};
 ghost use Rattle.commit_writes.specs.InFlight.{AreCurrent};
 ghost use Rattle.batch_order.specs.CarriedOut.{HasRoomBothWays};
@@ -11,19 +11,19 @@ ghost use Rattle.replay.specs.Run.{Progress};
 ghost use Rattle.report_lines.specs.Outside.{WritesLine};
 ghost use Rattle.replay.specs.Outside.{Leaves, outside};
 ghost use Rattle.replay.specs.Carried.{IsAt};
-ghost use Rattle.replay.specs.Fates.{IsToCrash, commit_act, crash_of};
+ghost use Rattle.replay.specs.Fates.{IsToCrash, commit_act, turn_of};
 ghost use Rattle.replay.specs.Running.{act_outcome_of, AreLeft, LeavesWords, progress_of, setting_of};
 ghost use Rattle.replay.specs.Making.{ended_line};
 ghost use Rattle.replay.specs.Unfinished.{IsUnfinished, ResumesTo, StaysInStep, TakesAtCrash};
-ghost use Rattle.replay.specs.Crashing.{ComesToCrash, HasMoreThan, IsAtCrash, IsGoneOnWith, IsLost, memory_wanted};
+ghost use Rattle.replay.specs.Crashing.{ComesToTurn, HasMoreThan, IsAtTurn, IsLost, IsTurned, memory_wanted};
 ghost use Rattle.tcam_device.specs.View.{IsSameButSpare};
 
 use crate::RunFault;
-use crate::fate::Fate;
+use crate::fate::{Fate, Then};
 use crate::json_report::write_shared;
 use crate::report::{write_aborted, write_accepted, write_early, write_restarted};
 use crate::run::Run;
-use crate::steps::{Ended, make_up_to, make_writes};
+use crate::steps::{Ended, make_until, make_up_to};
 use crate::watch::NOTHING;
 use batch_order::{Done, Manager, RestartFault};
 use readback::StageFault;
@@ -47,7 +47,7 @@ impl Run {
         requires room { HasRoomBothWays self.old.manager.held (D.view device.old).spare }
         requires stands { IsToCrash self.old.fate → IsAt (D.view device.old).slots (D.view device.old).events (progress_of (D.view device.old).slots self.old) }
         requires commits { self.old.commits < 2 ^ 24 }
-        requires told { self.old.json ≡ true → self.old.fate ≡ Fate.ToTheEnd }
+        requires told { self.old.json ≡ true → self.old.fate ≡ Fate.Finishes }
         ensures resumes { (which : Bool) → (before : Progress) → IsUnfinished (D.view device.old).slots before (opened (setting_of self.old) self.old.commits self.old.pending) self.old
             → IsAt (D.view device.old).slots (D.view device.old).events (progress_of (D.view device.old).slots self.old)
             → AreCurrent (live_now self.old.manager) (D.view device.old).flight
@@ -70,8 +70,8 @@ impl Run {
         }
     }
 
-    /// Makes and tells the writes that are left of the commit under way, over its crash where that is still to come,
-    /// counts it, drops its batch, and writes its line. `Memory` comes at the crash alone.
+    /// Makes and tells the writes that are left of the commit under way, over its turn where that is still to come,
+    /// counts it, drops its batch, and writes its line. `Memory` comes at a crash alone.
     pub(crate) fn carry_out<K: Sink, D: ReadBack>(
         &mut self,
         sink: &mut K,
@@ -100,12 +100,12 @@ impl Run {
         ensures in_step { result ≢ Err RunFault.Sink → StaysInStep (D.view device.old).slots self.old self.new (D.view device.old).events (D.view device.new).events (D.view device.old).flight (D.view device.new).flight }
         ensures leaves { Leaves K.taken K.faults sink.old sink.new (D.view device.old) (D.view device.new) (result ≡ Err RunFault.Sink) (result ≡ Err RunFault.Device) }
     {
-        if let Some(after) = self.crash_ahead() {
-            match self.come_to_crash(after, sink, device) {
+        if let Some((after, then)) = self.turn_ahead() {
+            match self.come_to(after, then, sink, device) {
                 Ok(()) => {}
                 Err(fault) => return Err(fault),
             }
-            match self.restart(after, device) {
+            match self.hand_over(after, then, device) {
                 Ok(()) => {}
                 Err(AllocError) => return Err(RunFault::Memory),
             }
@@ -113,43 +113,44 @@ impl Run {
         self.complete(sink, device)
     }
 
-    // Behind how many writes the commit under way crashes, if it is to and has more.
-    fn crash_ahead(&self) -> Option<u32>
+    // Behind how many writes the commit under way is turned, if it is to be and has more, and how it goes on then.
+    fn turn_ahead(&self) -> Option<(u32, Then)>
         requires held { IsSome self.now.manager.held }
-        ensures ahead { IfSome result (λ after. (crash_of self.now.fate ≡ Some after) × HasMoreThan after self.now) }
-        ensures none { IsNone result → IfSome (crash_of self.now.fate) (λ after. ¬ (HasMoreThan after self.now)) }
+        ensures ahead { IfSome result (λ turn. (self.now.fate ≡ Fate.Turns turn.0 turn.1) × HasMoreThan turn.0 self.now) }
+        ensures none { IsNone result → IfSome (turn_of self.now.fate) (λ after. ¬ (HasMoreThan after self.now)) }
     {
-        let Fate::CrashAfter(after) = self.fate else {
+        let Fate::Turns { after, then } = self.fate else {
             return None;
         };
         let left = self.manager.left()?;
         if self.count.told + left > u64::from(after) {
-            Some(after)
+            Some((after, then))
         } else {
             None
         }
     }
 
-    // Makes and tells the writes up to the crash.
-    fn come_to_crash<K: Sink, D: ReadBack>(
+    // Makes and tells the writes up to the turn.
+    fn come_to<K: Sink, D: ReadBack>(
         &mut self,
         after: u32,
+        then: Then,
         sink: &mut K,
         device: &mut D,
     ) -> Result<(), RunFault>
         requires slots { self.old.manager.slots ≤ (D.view device.old).slots }
         requires in_flight { AreLeft self.old (D.view device.old).flight }
-        requires crashes { self.old.fate ≡ Fate.CrashAfter after }
+        requires turns { self.old.fate ≡ Fate.Turns after then }
         requires held { IsSome self.old.manager.held }
         requires more { HasMoreThan after self.old }
         requires room { HasRoomBothWays self.old.manager.held (D.view device.old).spare }
         ensures comes { (which : Bool) → (before : Progress) → (front : List Effect) → IsUnfinished (D.view device.old).slots before front self.old
             → IsAt (D.view device.old).slots (D.view device.old).events (progress_of (D.view device.old).slots self.old)
             → AreCurrent (live_now self.old.manager) (D.view device.old).flight
-            → ComesToCrash (D.view device.old).slots before (commit_act self.old.fate) front self.new result
+            → ComesToTurn (D.view device.old).slots before (commit_act self.old.fate) front self.new result
             (outside (D.view device.old).events (counted which (K.taken sink.old) (K.accepted sink.old)))
             (outside (D.view device.new).events (counted which (K.taken sink.new) (K.accepted sink.new))) (D.view device.new).flight }
-        ensures at_crash { OnOk result (IsAtCrash after self.new) }
+        ensures at_turn { OnOk result (IsAtTurn after then self.new) }
         ensures stands { OnOk result (IsAt (D.view device.old).slots (D.view device.old).events (progress_of (D.view device.old).slots self.old)
             → IsAt (D.view device.new).slots (D.view device.new).events (progress_of (D.view device.new).slots self.new)) }
         ensures kind { IfErr result (λ fault. (fault ≡ RunFault.Sink) ⊎ (fault ≡ RunFault.Device)) }
@@ -166,14 +167,65 @@ impl Run {
         make_up_to(manager, &self.watch, count, after, sink, device)
     }
 
+    // Has the commit go on from its turn so. Only a restart takes memory.
+    fn hand_over<D: ReadBack>(
+        &mut self,
+        after: u32,
+        then: Then,
+        device: &mut D,
+    ) -> Result<(), AllocError>
+        requires slots { self.old.manager.slots ≤ (D.view device.old).slots }
+        requires at_turn { IsAtTurn after then self.old }
+        requires stands { IsToCrash self.old.fate → IsAt (D.view device.old).slots (D.view device.old).events (progress_of (D.view device.old).slots self.old) }
+        requires room { HasRoomBothWays self.old.manager.held (D.view device.old).spare }
+        ensures turned { OnOk result (IsTurned after then self.old self.new) }
+        ensures unfinished { OnOk result ((before : Progress) → (front : List Effect)
+            → IsUnfinished (D.view device.old).slots before front self.old → IsUnfinished (D.view device.old).slots before front self.new) }
+        ensures stands { OnOk result (progress_of (D.view device.old).slots self.new ≡ progress_of (D.view device.old).slots self.old) }
+        ensures current { OnOk result (AreCurrent (live_now self.old.manager) (D.view device.old).flight → AreCurrent (live_now self.new.manager) (D.view device.new).flight) }
+        ensures wants { OnErr result ((before : Progress) → (front : List Effect)
+            → IsUnfinished (D.view device.old).slots before front self.old → TakesAtCrash (setting_of self.old) before (commit_act self.old.fate) front) }
+        ensures lost { OnErr result (IsLost self.old self.new) }
+        ensures setting { setting_of self.new ≡ setting_of self.old }
+        ensures room { HasRoomBothWays self.new.manager.held (D.view device.new).spare }
+        ensures others { IsSameButSpare (D.view device.old) (D.view device.new) }
+        ensures kind { OnErr result (IsToCrash self.old.fate) }
+    {
+        match then {
+            Then::Back => {
+                self.take_back(after);
+                Ok(())
+            }
+            Then::Restart => self.restart(after, device),
+        }
+    }
+
+    // Turns the commit round: what undoes its writes is left to make. The words in flight stay as they are.
+    fn take_back(&mut self, after: u32)
+        requires at_turn { IsAtTurn after Then.Back self.old }
+        ensures turned { IsTurned after Then.Back self.old self.new }
+        ensures unfinished { (slots : ℕ) → (before : Progress) → (front : List Effect) → IsUnfinished slots before front self.old → IsUnfinished slots before front self.new }
+        ensures stands { (slots : ℕ) → progress_of slots self.new ≡ progress_of slots self.old }
+        ensures current { live_now self.new.manager ≡ live_now self.old.manager }
+        ensures setting { setting_of self.new ≡ setting_of self.old }
+        ensures room { (spare : ℕ) → HasRoomBothWays self.old.manager.held spare → HasRoomBothWays self.new.manager.held spare }
+    {
+        // One that `prepare` planned and that isn't turned is taken back.
+        let _writes = self.manager.abort();
+        self.fate = Fate::Turned {
+            after,
+            then: Then::Back,
+        };
+    }
+
     // Drops the manager, and has another one go on with the commit by what the device shows, with the words in flight
     // as they are. For want of memory no call may follow.
     fn restart<D: ReadBack>(&mut self, after: u32, device: &mut D) -> Result<(), AllocError>
         requires slots { self.old.manager.slots ≤ (D.view device.old).slots }
-        requires at_crash { IsAtCrash after self.old }
+        requires at_turn { IsAtTurn after Then.Restart self.old }
         requires stands { IsAt (D.view device.old).slots (D.view device.old).events (progress_of (D.view device.old).slots self.old) }
         requires room { HasRoomBothWays self.old.manager.held (D.view device.old).spare }
-        ensures goes_on { OnOk result (IsGoneOnWith after self.old self.new) }
+        ensures turned { OnOk result (IsTurned after Then.Restart self.old self.new) }
         ensures unfinished { OnOk result ((before : Progress) → (front : List Effect)
             → IsUnfinished (D.view device.old).slots before front self.old → IsUnfinished (D.view device.old).slots before front self.new) }
         ensures stands { OnOk result (progress_of (D.view device.old).slots self.new ≡ progress_of (D.view device.old).slots self.old) }
@@ -207,12 +259,15 @@ impl Run {
         ) {
             Ok(manager) => {
                 self.manager = manager;
-                self.fate = Fate::RestartedAfter(after);
+                self.fate = Fate::Turned {
+                    after,
+                    then: Then::Restart,
+                };
                 Ok(())
             }
             Err((RestartFault::Stage(StageFault::Memory), _)) => {
                 self.count = NOTHING;
-                self.fate = Fate::ToTheEnd;
+                self.fate = Fate::Finishes;
                 self.broken = true;
                 Err(AllocError)
             }
@@ -231,7 +286,7 @@ impl Run {
         requires slots { self.old.manager.slots ≤ (D.view device.old).slots }
         requires in_flight { AreLeft self.old (D.view device.old).flight }
         requires held { IsSome self.old.manager.held }
-        requires no_crash { IfSome (crash_of self.old.fate) (λ after. ¬ (HasMoreThan after self.old)) }
+        requires no_turn { IfSome (turn_of self.old.fate) (λ after. ¬ (HasMoreThan after self.old)) }
         requires room { HasRoomBothWays self.old.manager.held (D.view device.old).spare }
         requires commits { self.old.commits < 2 ^ 24 }
         ensures resumes { (which : Bool) → (before : Progress) → (front : List Effect) → IsUnfinished (D.view device.old).slots before front self.old
@@ -251,13 +306,15 @@ impl Run {
         ensures leaves { Leaves K.taken K.faults sink.old sink.new (D.view device.old) (D.view device.new) (result ≡ Err RunFault.Sink) (result ≡ Err RunFault.Device) }
     {
         let (manager, count, fate) = (&mut self.manager, &mut self.count, self.fate);
-        let ended = match make_writes(manager, &self.watch, count, fate, sink, device) {
-            Ok(ended) => ended,
+        let ended = match make_until(manager, &self.watch, count, None, sink, device) {
+            Ok(Some(ended)) => ended,
+            // There is no turn to stop for.
+            Ok(None) => unreachable!(),
             Err(fault) => return Err(fault),
         };
         let count = self.count;
         self.count = NOTHING;
-        self.fate = Fate::ToTheEnd;
+        self.fate = Fate::Finishes;
         self.count_commit();
         self.writes += count.told;
         match self.watch.search_all(&count, sink, device) {
@@ -304,10 +361,8 @@ fn write_ended<K: Sink>(
 {
     match ended {
         Ended::Finished(done) => match fate {
-            Fate::RestartedAfter(after) => write_restarted(sink, commit, after, writes),
-            Fate::ToTheEnd | Fate::BackAfter(_) | Fate::CrashAfter(_) => write_finished(
-                sink, json, early, commit, done,
-            ),
+            Fate::Turned { after, .. } => write_restarted(sink, commit, after, writes),
+            Fate::Finishes | Fate::Turns { .. } => write_finished(sink, json, early, commit, done),
         },
         Ended::Reverted => write_aborted(sink, commit, writes),
     }

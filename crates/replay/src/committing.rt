@@ -8,7 +8,7 @@ ghost use Rattle.report_lines.specs.Told.{verdict_told};
 ghost use Rattle.report_lines.specs.Outside.{WritesLine};
 ghost use Rattle.settled_changes.specs.Requested.{IsAsked, TakesAsked, IsWhyNone, settled_batch};
 ghost use Rattle.replay.specs.Carried.{IsAt};
-ghost use Rattle.replay.specs.Fates.{AnswersLost, IsFirst, IsToCrash, commit_act};
+ghost use Rattle.replay.specs.Fates.{AnswersLost, IsAhead, IsToCrash, commit_act};
 ghost use Rattle.replay.specs.Outside.{Leaves, outside};
 ghost use Rattle.replay.specs.Reports.{refusal_line};
 ghost use Rattle.replay.specs.Run.{settled_at};
@@ -37,8 +37,8 @@ impl Run {
         requires slots { self.old.manager.slots ≤ (D.view device.old).slots }
         requires none_in_flight { (D.view device.old).flight ≡ [] }
         requires idle { self.old.manager.held ≡ None }
-        requires first { IsFirst fate }
-        requires told { self.old.json ≡ true → fate ≡ Fate.ToTheEnd }
+        requires first { IsAhead fate }
+        requires told { self.old.json ≡ true → fate ≡ Fate.Finishes }
         requires whole { self.old.broken ≡ false }
         requires stands { IsToCrash fate → IsAt (D.view device.old).slots (D.view device.old).events (progress_of (D.view device.old).slots self.old) }
         requires commits { self.old.commits < 2 ^ 24 }
@@ -95,8 +95,8 @@ impl Run {
         requires taken { TakesAsked self.old.manager.rules self.old.asked }
         requires sound { IsSound self.old.manager.rules batch }
         requires asked { IsAsked self.old.asked }
-        requires first { IsFirst fate }
-        requires told { self.old.json ≡ true → fate ≡ Fate.ToTheEnd }
+        requires first { IsAhead fate }
+        requires told { self.old.json ≡ true → fate ≡ Fate.Finishes }
         requires whole { self.old.broken ≡ false }
         requires stands { IsToCrash fate → IsAt (D.view device.old).slots (D.view device.old).events (progress_of (D.view device.old).slots self.old) }
         requires commits { self.old.commits < 2 ^ 24 }
@@ -161,8 +161,8 @@ impl Run {
         requires none_in_flight { (D.view device.old).flight ≡ [] }
         requires idle { self.old.manager.held ≡ None }
         requires strict { self.old.asked ≡ Requested.Nothing }
-        requires first { IsFirst fate }
-        requires told { self.old.json ≡ true → fate ≡ Fate.ToTheEnd }
+        requires first { IsAhead fate }
+        requires told { self.old.json ≡ true → fate ≡ Fate.Finishes }
         requires whole { self.old.broken ≡ false }
         requires stands { IsToCrash fate → IsAt (D.view device.old).slots (D.view device.old).events (progress_of (D.view device.old).slots self.old) }
         requires commits { self.old.commits < 2 ^ 24 }

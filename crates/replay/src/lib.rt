@@ -49,11 +49,13 @@
 //!   behind it empties the table, as it says.
 //! - **A packet's line is the set's answer**, and no clause says who was asked. The run asks the device, which holds
 //!   the manager's writes and so answers the same (`rules` of the manager).
-//! - **`trial K` is turned round before the step that would be too much** (`turn_round`): right behind write `K`, where
-//!   writes are left, and before a drain that is due then. What is left is stated by what it has come to, the actions
-//!   there and back in one list (`actions_left` in `specs/Running`), so `resume` goes on with a trial that a device stopped
-//!   on either way. Its line counts both ways, since the device made both. A commit's writes are below `2^40`, twice
-//!   those of a segment. `apply` and `resume` ask for room for the way back, which `prepare` reserves.
+//! - **A trial and a crash are turned at one place, by one loop** (`Fate::Turns`, `carry_out`): the writes up to `K` are
+//!   made where it has more, right before a drain that is due then; it is handed over, and what is left then is made to the
+//!   end. A trial hands over what undoes its writes, to its own manager and without memory (`take_back`), a crash what
+//!   another manager plans (`restart`). What a trial makes is stated as one list, there and back (`course_of` in
+//!   `specs/Running`), so `resume` goes on with one that a device stopped on either way. Its line counts both ways, since
+//!   the device made both. A commit's writes are below `2^40`, twice those of a segment. `apply` and `resume` ask for room
+//!   for the way back, which `prepare` reserves.
 //! - **`crash K` is one commit with one list of actions** (`actions_over` in `specs/Run`): those up to the crash,
 //!   without a drain that is due then, and those of the plan that goes on. So lines, numbers and words in flight of
 //!   both parts are those of any commit (`carried`). One that is cut before its crash has no second part yet, and

@@ -19,7 +19,7 @@ ghost use Rattle.replay.specs.Fates.{AnswersBroken, AnswersLost, IsCrash, IsToCr
 ghost use Rattle.replay.specs.Running.{act_outcome_of, AnswersHeld, AreLeft, ComesTo, NothingIsDone, LeavesWords, sink_failed, begun, limit_text, progress_of, setting_of, IsActOf, IsToldIn};
 ghost use Rattle.replay.specs.Unfinished.{IsUnfinished, ResumesTo, StaysInStep, StaysUnfinished};
 
-use crate::fate::Fate;
+use crate::fate::{Fate, Then};
 use crate::report::write_packet;
 use crate::watch::{Count, NOTHING, Watch};
 use crate::{Act, ActFault, Family, RunFault};
@@ -101,7 +101,7 @@ impl Run {
             refused: false,
             early: false,
             count: NOTHING,
-            fate: Fate::ToTheEnd,
+            fate: Fate::Finishes,
             broken: false,
         })
     }
@@ -304,9 +304,23 @@ impl Run {
             Act::All => self.begin_whole(),
             Act::Probe(key) => self.probe(key),
             Act::Packet(key) => self.packet(&key, sink, device),
-            Act::Commit => self.commit(Fate::ToTheEnd, sink, device),
-            Act::Trial(most) => self.commit(Fate::BackAfter(most), sink, device),
-            Act::Crash(after) => self.commit(Fate::CrashAfter(after), sink, device),
+            Act::Commit => self.commit(Fate::Finishes, sink, device),
+            Act::Trial(after) => self.commit(
+                Fate::Turns {
+                    after,
+                    then: Then::Back,
+                },
+                sink,
+                device,
+            ),
+            Act::Crash(after) => self.commit(
+                Fate::Turns {
+                    after,
+                    then: Then::Restart,
+                },
+                sink,
+                device,
+            ),
         }
     }
 

@@ -8,17 +8,15 @@ ghost use Rattle.tcam_device.specs.Flight.{writes_in};
 ghost use Rattle.tcam_device.specs.declared.Action.TheVariants as Action;
 ghost use Rattle.tcam_device.specs.View.{HasMade, IsSameButFlight, IsUntouched, device_state, journal};
 ghost use Rattle.batch_order.specs.CarriedOut.{HasRoomBothWays, IsTried};
-ghost use Rattle.batch_order.specs.Managed.{IsOn, live_now};
-ghost use Rattle.batch_order.specs.Steps.{KeepsCurrent, ServesNow, Steps, actions_of, awaits_drain, is_back, next_of};
+ghost use Rattle.batch_order.specs.Managed.{IsOn};
+ghost use Rattle.batch_order.specs.Steps.{KeepsCurrent, ServesNow, Steps, actions_of, awaits_drain, next_of};
 ghost use Rattle.replay.specs.Effects.{drain_told, probes_told, write_told};
 ghost use Rattle.replay.specs.InFlight.{AreOf, IsSeen, flight_left, found_after};
 ghost use Rattle.replay.specs.Outside.{Leaves, WritesLines, outside};
-ghost use Rattle.replay.specs.Fates.{IsWithinCrash, crash_due, most_of};
+ghost use Rattle.replay.specs.Fates.{IsWithinTurn, turn_due};
 ghost use Rattle.replay.specs.Pausing.{MakesUntil, MakesUpTo};
-ghost use Rattle.replay.specs.Running.{MayTurnBack, TurnsBackAt, actions_left, trial_rest};
-ghost use Rattle.replay.specs.Making.{Makes, snapshot};
+ghost use Rattle.replay.specs.Making.{snapshot};
 
-use crate::fate::Fate;
 use crate::watch::{Count, Watch};
 use crate::{RunFault, TRIES};
 use batch_order::{Done, Manager, Step};
@@ -31,49 +29,12 @@ use tcam_device::{Device, DeviceFault, ReadBack, Writable, Write};
 pub(crate) enum Ended {
     /// All of its writes are made.
     Finished(Done),
-    /// It was a trial with more writes than it may have, and is taken back.
+    /// It is taken back.
     Reverted,
 }
 
-/// Makes the writes that are left of the commit under way, one at a time, and tells each of them, with the number
-/// behind those that were told before. Before its drain the words in flight are searched. `Sink` comes where a line
-/// can't be written, and `Device` where a write failed each time it was tried. The words of the last writes stay in
-/// flight.
-pub(crate) fn make_writes<K: Sink, D: ReadBack>(
-    manager: &mut Manager,
-    watch: &Watch,
-    count: &mut Count,
-    fate: Fate,
-    sink: &mut K,
-    device: &mut D,
-) -> Result<Ended, RunFault>
-    requires slots { manager.old.slots ≤ (D.view device.old).slots }
-    requires in_flight { AreOf (probes_told watch.now.json watch.now.probes) count.old.waiting (D.view device.old).flight }
-    requires waiting { count.old.waiting ≤ watch.now.depth }
-    requires held { IsSome manager.old.held }
-    requires may_turn { MayTurnBack (most_of fate) manager.old.held }
-    requires room { HasRoomBothWays manager.old.held (D.view device.old).spare }
-    requires few { IfSome manager.old.held (λ held. count.old.told + length (writes_in (actions_left (trial_rest (most_of fate) count.old.told) manager.old.state held)) ≤ 2 ^ 40) }
-    ensures makes { (which : Bool) → Makes (IsSeen (D.view device.old).slots (D.view device.old).events (D.view device.old).flight manager.old) (most_of fate) watch.now (D.view device.old).slots
-        (snapshot manager.old count.old (outside (D.view device.old).events (counted which (K.taken sink.old) (K.accepted sink.old))))
-        (snapshot manager.new count.new (outside (D.view device.new).events (counted which (K.taken sink.new) (K.accepted sink.new)))) result }
-    ensures in_flight { result ≢ Err RunFault.Sink → AreOf (probes_told watch.now.json watch.now.probes) count.new.waiting (D.view device.new).flight }
-    ensures seen { result ≢ Err RunFault.Sink → IsSeen (D.view device.old).slots (D.view device.old).events (D.view device.old).flight manager.old
-        → IsSeen (D.view device.new).slots (D.view device.new).events (D.view device.new).flight manager.new }
-    ensures serves { OnOk result (ServesNow manager.new) }
-    ensures room { HasRoomBothWays manager.new.held (D.view device.new).spare }
-    ensures leaves { Leaves K.taken K.faults sink.old sink.new (D.view device.old) (D.view device.new) (result ≡ Err RunFault.Sink) (result ≡ Err RunFault.Device) }
-{
-    match make_until(manager, watch, count, fate.most(), None, sink, device) {
-        Ok(Some(ended)) => Ok(ended),
-        // There is no crash to stop for.
-        Ok(None) => unreachable!(),
-        Err(fault) => Err(fault),
-    }
-}
-
 /// Makes the writes of the commit under way, which has more than so many, until that many are told, and tells each as
-/// `make_writes` does. A drain that is due then isn't made.
+/// `make_until` does. A drain that is due then isn't made.
 pub(crate) fn make_up_to<K: Sink, D: ReadBack>(
     manager: &mut Manager,
     watch: &Watch,
@@ -85,7 +46,6 @@ pub(crate) fn make_up_to<K: Sink, D: ReadBack>(
     requires slots { manager.old.slots ≤ (D.view device.old).slots }
     requires in_flight { AreOf (probes_told watch.now.json watch.now.probes) count.old.waiting (D.view device.old).flight }
     requires waiting { count.old.waiting ≤ watch.now.depth }
-    requires forward { IfSome manager.old.held (λ held. is_back held.way ≡ false) }
     requires held { IsSome manager.old.held }
     requires room { HasRoomBothWays manager.old.held (D.view device.old).spare }
     requires told { count.old.told ≤ after }
@@ -100,7 +60,7 @@ pub(crate) fn make_up_to<K: Sink, D: ReadBack>(
     ensures room { HasRoomBothWays manager.new.held (D.view device.new).spare }
     ensures leaves { Leaves K.taken K.faults sink.old sink.new (D.view device.old) (D.view device.new) (result ≡ Err RunFault.Sink) (result ≡ Err RunFault.Device) }
 {
-    match make_until(manager, watch, count, None, Some(after), sink, device) {
+    match make_until(manager, watch, count, Some(after), sink, device) {
         Ok(None) => Ok(()),
         // It has more writes than these.
         Ok(Some(_)) => unreachable!(),
@@ -108,13 +68,14 @@ pub(crate) fn make_up_to<K: Sink, D: ReadBack>(
     }
 }
 
-// Makes the writes that are left of the commit under way up to its end, or up to a crash behind so many of them where
-// it has more: None comes there.
-fn make_until<K: Sink, D: ReadBack>(
+/// Makes the writes that are left of the commit under way, one at a time, and tells each of them, with the number
+/// behind those that were told before: up to its end, or up to its turn behind so many of them where it has more, and
+/// then None comes. Before its drain the words in flight are searched. `Sink` comes where a line can't be written, and
+/// `Device` where a write failed each time it was tried. The words of the last writes stay in flight.
+pub(crate) fn make_until<K: Sink, D: ReadBack>(
     manager: &mut Manager,
     watch: &Watch,
     count: &mut Count,
-    most: Option<u32>,
     stop: Option<u32>,
     sink: &mut K,
     device: &mut D,
@@ -123,12 +84,10 @@ fn make_until<K: Sink, D: ReadBack>(
     requires in_flight { AreOf (probes_told watch.now.json watch.now.probes) count.old.waiting (D.view device.old).flight }
     requires waiting { count.old.waiting ≤ watch.now.depth }
     requires held { IsSome manager.old.held }
-    requires may_turn { MayTurnBack most manager.old.held }
-    requires forward { IsSome stop → (most ≡ None) × IfSome manager.old.held (λ held. is_back held.way ≡ false) }
-    requires told { IsWithinCrash stop count.old.told }
+    requires told { IsWithinTurn stop count.old.told }
     requires room { HasRoomBothWays manager.old.held (D.view device.old).spare }
-    requires few { IfSome manager.old.held (λ held. count.old.told + length (writes_in (actions_left (trial_rest most count.old.told) manager.old.state held)) ≤ 2 ^ 40) }
-    ensures makes { (which : Bool) → MakesUntil (IsSeen (D.view device.old).slots (D.view device.old).events (D.view device.old).flight manager.old) most stop watch.now (D.view device.old).slots
+    requires few { IfSome manager.old.held (λ held. count.old.told + length (writes_in held.actions) ≤ 2 ^ 40) }
+    ensures makes { (which : Bool) → MakesUntil (IsSeen (D.view device.old).slots (D.view device.old).events (D.view device.old).flight manager.old) stop watch.now (D.view device.old).slots
         (snapshot manager.old count.old (outside (D.view device.old).events (counted which (K.taken sink.old) (K.accepted sink.old))))
         (snapshot manager.new count.new (outside (D.view device.new).events (counted which (K.taken sink.new) (K.accepted sink.new)))) result }
     ensures in_flight { result ≢ Err RunFault.Sink → AreOf (probes_told watch.now.json watch.now.probes) count.new.waiting (D.view device.new).flight }
@@ -142,7 +101,6 @@ fn make_until<K: Sink, D: ReadBack>(
         if stops_here(manager, stop, count.told) {
             return Ok(None);
         }
-        turn_round(manager, most, count.told);
         let deed = watch.next_deed(manager, device);
         match step_tried(manager, device) {
             Ok(Step::Wrote(write)) => match tell_write(watch, count, &deed, &write, sink, device) {
@@ -173,9 +131,9 @@ fn make_until<K: Sink, D: ReadBack>(
     }
 }
 
-// Whether a commit that crashes has made as many writes as come before that, and has more to make.
+// Whether a commit has made as many writes as come before its turn, and has more to make.
 fn stops_here(manager: &Manager, stop: Option<u32>, told: u64) -> bool
-    ensures { result ≡ crash_due stop told manager.now.held }
+    ensures { result ≡ turn_due stop told manager.now.held }
 {
     let Some(after) = stop else {
         return false;
@@ -184,27 +142,6 @@ fn stops_here(manager: &Manager, stop: Option<u32>, told: u64) -> bool
         return false;
     };
     told >= u64::from(after) && left > 0
-}
-
-// Turns a trial round that has made as many writes as it may, and has more to make.
-#[tactic(auto, using(crate::proofs::making::Acting::turns_room))]
-fn turn_round(manager: &mut Manager, most: Option<u32>, told: u64)
-    requires { MayTurnBack most manager.old.held }
-    ensures turns { TurnsBackAt most told manager.old manager.old.held manager.new }
-    ensures state { manager.new.state ≡ manager.old.state }
-    ensures current { live_now manager.new ≡ live_now manager.old }
-    ensures both_ways { (spare : ℕ) → HasRoomBothWays manager.old.held spare → HasRoomBothWays manager.new.held spare }
-{
-    let Some(limit) = most else {
-        return;
-    };
-    let Some(left) = manager.left() else {
-        return;
-    };
-    if left > 0 && told >= u64::from(limit) {
-        // One that is turned round already goes on.
-        let _turned = manager.abort();
-    }
 }
 
 // Counts a write that was made, and tells of it and of the probes that are searched then.

@@ -21,6 +21,7 @@ use Rattle.settled_changes.specs.Requested.{asked_behind, asked_with, batch_behi
 use Rattle.replay.specs.Effects.{Setting, Effect, Prints}
 use Rattle.replay.specs.declared.fate.Fate.{Fate}
 use Rattle.replay.specs.declared.fate.Fate.TheVariants as fates
+use Rattle.replay.specs.declared.fate.Then.TheVariants as thens
 use Rattle.replay.specs.Fates.{commit_act}
 use Rattle.replay.specs.Run.{Progress, Commits, Tries, Crashes, Refuses, Judged, HasEffects, Settles, TakesMemory, pending_verdict, settled_at}
 use Rattle.replay.specs.Reports.{packet_told, refusal_line}
@@ -170,10 +171,11 @@ refuse-step fate slots run reason line judged other same = go fate
         (judged-refused Does (setting_of run) (settled_at (progress_of slots run)) reason (Prints line ∷ []) (progress_of slots (run_refused run)) other (ap (λ text. Prints text ∷ []) same, refl))
 
     go : (one : Fate) → HasEffects (setting_of run) (progress_of slots run) (commit_act one) (Prints line ∷ []) (progress_of slots (run_refused run))
-    go fates.ToTheEnd = by Commits
-    go (fates.BackAfter most) = by (Tries most)
-    go (fates.CrashAfter after) = by (Crashes after)
-    go (fates.RestartedAfter after) = by (Crashes after)
+    go fates.Finishes = by Commits
+    go (fates.Turns after thens.Back) = by (Tries after)
+    go (fates.Turns after thens.Restart) = by (Crashes after)
+    go (fates.Turned after thens.Back) = by (Tries after)
+    go (fates.Turned after thens.Restart) = by (Crashes after)
 
 -- a commit that is refused, with its line
 pub refuse-carries : (fate : Fate) (slots : ℕ) (run new : Running) (reason : Verdict) (events_old events_new : List Action) (old taken : Option (List ℕ))

@@ -8,20 +8,20 @@ use Rattle.replay.specs.declared.Act.{Act}
 use Rattle.replay.specs.declared.RunFault.{RunFault}
 use Rattle.replay.specs.declared.RunFault.TheVariants as fault
 use Rattle.replay.specs.declared.fate.Fate.{Fate}
-use Rattle.replay.specs.declared.fate.Fate.TheVariants.{ToTheEnd}
+use Rattle.replay.specs.declared.fate.Fate.TheVariants.{Finishes}
 use Rattle.replay.specs.Effects.{Effect, Prints, events_in, printed}
 use Rattle.replay.specs.Reports.{opened}
 use Rattle.replay.specs.Run.{Progress}
 use Rattle.replay.specs.Outside.{CutsLines, outside}
 use Rattle.replay.specs.Carried.{Does}
 use Rattle.replay.specs.Crashing.{HasMoreThan}
-use Rattle.replay.specs.Fates.{commit_act, crash_of}
+use Rattle.replay.specs.Fates.{commit_act, turn_of}
 use Rattle.replay.specs.Running.{Running, IsRun, setting_of}
 use Rattle.replay.specs.Unfinished.{BreaksOff, IsUnfinished, ResumesTo}
 use Rattle.replay.proofs.lines.Effects.{events-append, events-front, printed-append}
 use Rattle.replay.proofs.lines.Opened.{events-opened}
 use Rattle.replay.proofs.course.Course.{later, told-then}
-use Rattle.replay.proofs.course.Rest.{HasNoCrash, Rest}
+use Rattle.replay.proofs.course.Rest.{HasNoTurn, Rest}
 use Rattle.replay.proofs.course.RestOf.{rest-of}
 
 -- lines, and what is done behind them
@@ -80,14 +80,14 @@ told-in_json false lines old taken cuts = absurd (no-line cuts.front (cuts.parti
 
 -- one of the lines that are told of it is cut
 module _ (slots : ℕ) (before : Progress) (run : Running) (unfinished : IsUnfinished slots before (opened (setting_of run) run.commits run.pending) run) (is : IsRun run) (inside : run.manager.slots ≤ slots)
-    (straight : run.json ≡ true → run.fate ≡ ToTheEnd) (events : List Action) (old taken : Option (List ℕ)) (cuts : CutsLines (opened (setting_of run) run.commits run.pending) old taken) where
+    (straight : run.json ≡ true → run.fate ≡ Finishes) (events : List Action) (old taken : Option (List ℕ)) (cuts : CutsLines (opened (setting_of run) run.commits run.pending) old taken) where
   abbrev lines : List Effect
   lines = opened (setting_of run) run.commits run.pending
 
-  no_crash : HasNoCrash run
+  no_crash : HasNoTurn run
   no_crash =
-      let plain : run.fate ≡ ToTheEnd = straight (told-in_json run.json _ old taken cuts) in
-      subst (λ (fate : Fate). IfSome (crash_of fate) (λ after. ¬ (HasMoreThan after run))) (sym plain) tt
+      let plain : run.fate ≡ Finishes = straight (told-in_json run.json _ old taken cuts) in
+      subst (λ (fate : Fate). IfSome (turn_of fate) (λ after. ¬ (HasMoreThan after run))) (sym plain) tt
 
   rest : Rest slots before lines run
   rest = rest-of slots before lines run unfinished is inside no_crash

@@ -41,10 +41,11 @@ use Rattle.report_lines.specs.Outside.{AppendsPart}
 use Rattle.replay.specs.Outside.{CutsLines, outside}
 use Rattle.replay.specs.Carried.{IsAt}
 use Rattle.replay.specs.Running.{Running, Watching, IsRun, IsHalfway, IsMidCommit, ComesTo, MakesSome, ShowsRules, act_outcome_of, sink_failed, watching, setting_of, progress_of, routes_of, verdict_of}
-use Rattle.replay.specs.Making.{HasCome, Makes, MakesAll, TellsActions, ended_line, snapshot}
+use Rattle.replay.specs.Making.{HasCome, MakesAll, TellsActions, ended_line, snapshot}
+use Rattle.replay.specs.Pausing.{MakesUntil}
 use Rattle.replay.specs.declared.fate.Fate.{Fate}
 use Rattle.replay.specs.declared.fate.Fate.TheVariants as fates
-use Rattle.replay.specs.Fates.{IsFirst, IsToCrash, commit_act, most_of}
+use Rattle.replay.specs.Fates.{IsAhead, IsToCrash, commit_act}
 use Rattle.replay.specs.Unfinished.{IsUnfinished, Finishes, StaysUnfinished, BreaksOff, ResumesTo, TakesAtCrash}
 use Rattle.replay.proofs.between.Refusals.{told-verdict, told-refused}
 use Rattle.replay.proofs.course.Course.{breaks, breaks-last, breaks-searching, count_of, finishes, last_lines, stays, told-then}
@@ -55,19 +56,28 @@ use Rattle.replay.proofs.flight.Seeing.{lines-all}
 use Rattle.replay.proofs.between.Acts.{WantsBy, run_refused, refuse-carries, refuse-cuts}
 
 -- some of its actions were made, and it was cut at a line or at a write
-pub cut-some : (why : RunFault) (Seen : Type 0) (most : Option ℕ) (begun now : Managed) (watch : Watching) (slots : ℕ) (count count_now : Count) (events_old events_new : List Action) (old taken : Option (List ℕ))
-    → Makes Seen most watch slots (snapshot begun count (outside events_old old)) (snapshot now count_now (outside events_new taken)) (Err why)
-    → (some : MakesSome most count.told begun now) × HasCome watch count count_now some.made × ((why ≡ fault.Sink) ⊎ (why ≡ fault.Device))
-cut-some why Seen most begun now watch slots count count_now events_old events_new old taken (inl (sink, stops)) = (stops.some, stops.come, inl sink)
-cut-some why Seen most begun now watch slots count count_now events_old events_new old taken (inr (device, stops)) = (stops.some, stops.come, inr device)
+pub cut-some : (why : RunFault) (Seen : Type 0) (begun now : Managed) (watch : Watching) (slots : ℕ) (count count_now : Count) (events_old events_new : List Action) (old taken : Option (List ℕ))
+    → MakesUntil Seen None watch slots (snapshot begun count (outside events_old old)) (snapshot now count_now (outside events_new taken)) (Err why)
+    → (some : MakesSome begun now) × HasCome watch count count_now some.made × ((why ≡ fault.Sink) ⊎ (why ≡ fault.Device))
+cut-some why Seen begun now watch slots count count_now events_old events_new old taken (inl (sink, (stops, early, within, cuts))) = (stops.some, stops.come, inl sink)
+cut-some why Seen begun now watch slots count count_now events_old events_new old taken (inr (device, (stops, early, below))) = (stops.some, stops.come, inr device)
+
+-- or all of them
+pub all-made : (Seen : Type 0) (begun now : Managed) (watch : Watching) (slots : ℕ) (count count_now : Count) (events_old events_new : List Action) (old taken : Option (List ℕ)) (some : Option Ended) (end : Ended) → some ≡ Some end
+    → MakesUntil Seen None watch slots (snapshot begun count (outside events_old old)) (snapshot now count_now (outside events_new taken)) (Ok some)
+    → MakesAll Seen watch slots (snapshot begun count (outside events_old old)) end (snapshot now count_now (outside events_new taken))
+all-made Seen begun now watch slots count count_now events_old events_new old taken None end is makes = absurd (cc)
+all-made Seen begun now watch slots count count_now events_old events_new old taken (Some one) end is makes =
+    let same : one ≡ end = let both : Some one ≡ Some end = is in cc in
+    subst (λ e. MakesAll Seen watch slots (snapshot begun count (outside events_old old)) e (snapshot now count_now (outside events_new taken))) same makes.0
 
 -- a run whose commit was cut
 pub cut-held : (why : RunFault) (Seen : Type 0) (slots slots_made : ℕ) (before : Progress) (front : List Effect) (run : Running) (rest : Rest slots before front run) (now : Managed) (count_now : Count)
     (events_old events_new : List Action) (old taken : Option (List ℕ)) → IsRun run → run.manager.slots ≤ slots
-    → Makes Seen (most_of run.fate) (watching run) slots_made (snapshot run.manager (count_of run) (outside events_old old)) (snapshot now count_now (outside events_new taken)) (Err why) → IsRun (record run { manager = now; told = count_now.told; waiting = count_now.waiting })
+    → MakesUntil Seen None (watching run) slots_made (snapshot run.manager (count_of run) (outside events_old old)) (snapshot now count_now (outside events_new taken)) (Err why) → IsRun (record run { manager = now; told = count_now.told; waiting = count_now.waiting })
 cut-held why Seen slots slots_made before front run rest now count_now events_old events_new old taken is within makes =
-    let cut = cut-some why Seen (most_of run.fate) run.manager now (watching run) slots_made (count_of run) count_now events_old events_new old taken makes in
-    let now_slots : now.slots ≡ run.manager.slots = some-slots (most_of run.fate) run.told run.manager now cut.0 in
+    let cut = cut-some why Seen run.manager now (watching run) slots_made (count_of run) count_now events_old events_new old taken makes in
+    let now_slots : now.slots ≡ run.manager.slots = some-slots run.manager now cut.0 in
     cut-run run now count_now is cut.0 (under-way (record run { manager = now; told = count_now.told; waiting = count_now.waiting }) (subst (λ n. n ≤ slots) (sym now_slots) within) (rest.more now count_now cut.0 cut.1))
   where
     under-way : (new : Running) → new.manager.slots ≤ slots → {begun : Progress} {effects : List Effect} → IsUnfinished slots begun effects new → IsMidCommit new
@@ -75,10 +85,10 @@ cut-held why Seen slots slots_made before front run rest now count_now events_ol
     under-way new inside (inr stands) = inr (slots, inside, stands.onward)
 
 pub cut-setting : (why : RunFault) (Seen : Type 0) (run : Running) (now : Managed) (slots : ℕ) (count_now : Count) (events_old events_new : List Action) (old taken : Option (List ℕ))
-    → IsRun run → Makes Seen (most_of run.fate) (watching run) slots (snapshot run.manager (count_of run) (outside events_old old)) (snapshot now count_now (outside events_new taken)) (Err why)
+    → IsRun run → MakesUntil Seen None (watching run) slots (snapshot run.manager (count_of run) (outside events_old old)) (snapshot now count_now (outside events_new taken)) (Err why)
     → setting_of (record run { manager = now; told = count_now.told; waiting = count_now.waiting }) ≡ setting_of run
 cut-setting why Seen run now slots count_now events_old events_new old taken is makes =
-    let cut = cut-some why Seen (most_of run.fate) run.manager now (watching run) slots (count_of run) count_now events_old events_new old taken makes in
+    let cut = cut-some why Seen run.manager now (watching run) slots (count_of run) count_now events_old events_new old taken makes in
     ap (λ (manager : Managed). setting_of (record run { manager = manager })) cut.0.now_is
 
 module _ (slots : ℕ) (before : Progress) (front : List Effect) (inside run : Running) (same : inside ≡ run) (within : run.manager.slots ≤ slots) (events_old events_new : List Action)
@@ -98,9 +108,9 @@ module _ (slots : ℕ) (before : Progress) (front : List Effect) (inside run : R
 
   -- what going on comes to where it is cut
   pub resumes-cut : (why : RunFault) (now : Managed) (count : Count) (flight_new : Flight) (old taken : Option (List ℕ))
-      → Makes Seen (most_of inside.fate) (watching inside) slots (snapshot inside.manager (count_of inside) (outside events_old old)) (snapshot now count (outside events_new taken)) (Err why) → (why ≡ fault.Device → AreCurrent (live_now now) flight_new)
+      → MakesUntil Seen None (watching inside) slots (snapshot inside.manager (count_of inside) (outside events_old old)) (snapshot now count (outside events_new taken)) (Err why) → (why ≡ fault.Device → AreCurrent (live_now now) flight_new)
       → ResumesTo slots before (commit_act run.fate) front (record inside { manager = now; told = count.told; waiting = count.waiting }) (Err why) (outside events_old old) (outside events_new taken) flight_new
-  resumes-cut why now count flight_new old taken (inr (device, stops)) current_new =
+  resumes-cut why now count flight_new old taken (inr (device, (stops, early, below))) current_new =
       let new = record inside { manager = now; told = count.told; waiting = count.waiting } in
       let made = stops.some.made in
       subst (λ one. ResumesTo slots before (commit_act run.fate) front new (Err one) (outside events_old old) (outside events_new taken) flight_new) (sym device)
@@ -113,7 +123,7 @@ module _ (slots : ℕ) (before : Progress) (front : List Effect) (inside run : R
       stops.next stops.events (stops.report is-seen)
       (subst (λ effects. IsUnfinished slots before effects new) (told-then slots before front inside rest.course made) (rest.more now count stops.some stops.come))
       (current_new device)))
-  resumes-cut why now count flight_new old taken (inl (sink, stops)) current_new =
+  resumes-cut why now count flight_new old taken (inl (sink, (stops, early, within, cuts))) current_new =
       let new = record inside { manager = now; told = count.told; waiting = count.waiting } in
       subst (λ one. ResumesTo slots before (commit_act run.fate) front new (Err one) (outside events_old old) (outside events_new taken) flight_new) (sym sink)
       (subst (λ (r : Running). BreaksOff slots before (commit_act r.fate) front new (outside events_old old) (outside events_new taken)) same
@@ -122,8 +132,8 @@ module _ (slots : ℕ) (before : Progress) (front : List Effect) (inside run : R
       (ap (λ (manager : Managed). setting_of (record inside { manager = manager })) stops.some.now_is)
       (stops.cuts is-seen)))
 
-  module _ (end : Ended) (now : Managed) (count : Count) (old mid : Option (List ℕ)) (all : MakesAll Seen (most_of inside.fate) (watching inside) slots (snapshot inside.manager (count_of inside) (outside events_old old)) end (snapshot now count (outside events_new mid)))
-      (counted : Running) (closed : counted ≡ record inside { manager = now; told = 0; waiting = 0; fate = fates.ToTheEnd; pending = []; commits = inside.commits + 1 }) where
+  module _ (end : Ended) (now : Managed) (count : Count) (old mid : Option (List ℕ)) (all : MakesAll Seen (watching inside) slots (snapshot inside.manager (count_of inside) (outside events_old old)) end (snapshot now count (outside events_new mid)))
+      (counted : Running) (closed : counted ≡ record inside { manager = now; told = 0; waiting = 0; fate = fates.Finishes; pending = []; commits = inside.commits + 1 }) where
     abbrev run_now : Running
     run_now = record counted { writes = counted.writes + count.told }
 
@@ -229,7 +239,7 @@ taken-accepted (OutOfSlots needed free) counts taken = absurd (cc)
 
 -- where the commit of the pending batch is taken
 module _ (inside : Running) (counts : Done) (manager : Managed) (is : IsRun inside) (idle : inside.manager.held ≡ None) (plain : inside.asked ≡ Nothing) (holds : Holds inside.manager inside.pending counts manager)
-    (judges : Judges inside.manager inside.manager.held inside.pending (Ok counts)) (fate : Fate) (first : IsFirst fate) where
+    (judges : Judges inside.manager inside.manager.held inside.pending (Ok counts)) (fate : Fate) (first : IsAhead fate) where
   abbrev run_taken : Running
   run_taken = record inside { manager = manager; fate = fate }
 

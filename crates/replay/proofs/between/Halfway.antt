@@ -1,6 +1,5 @@
 -- A run whose commit is unfinished.
 use Rattle.std.proofs.Common.{◌≡◌, inl, ℕ, ◌+◌, ◌-◌, ◌*◌, ◌^◌, ◌<◌, ◌≤◌, Bool, true, false, List, [], ◌++◌, Option, Some, None, IfSome, length, length-append, refl, sym, ap, ◌∙◌, subst, arith}
-use Rattle.rule_model.specs.declared.Rule.{Rule}
 use Rattle.rule_store.specs.Verdict.{Accepted}
 use Rattle.tcam_device.specs.declared.Action.{Action}
 use Rattle.tcam_device.specs.Flight.{writes_in}
@@ -8,7 +7,8 @@ use Rattle.tcam_device.specs.State.{State, IsInUse, state_after}
 use Rattle.tcam_device.proofs.Spans.{state_after-append}
 use Rattle.tcam_device.proofs.Wider.{slots-after}
 use Rattle.commit_writes.specs.declared.Done.{Done}
-use Rattle.commit_writes.specs.Actions.{have_bits}
+use Rattle.batch_order.specs.Steps.{is_back as goes_back}
+use Rattle.commit_writes.specs.Actions.{back_from, have_bits, up_to_writes}
 use Rattle.commit_writes.specs.Routes.{IsRoute}
 use Rattle.commit_writes.specs.Bits.{FieldBits, bits_with, new_bits}
 use Rattle.commit_writes.proofs.WritesIn.{writes_of_commit, writes_in-append}
@@ -22,42 +22,63 @@ use Rattle.replay.specs.declared.steps.Ended.TheVariants as ended
 use Rattle.replay.specs.Effects.{waiting_after}
 use Rattle.settled_changes.specs.declared.requested.Requested.TheVariants.{Nothing}
 use Rattle.replay.specs.declared.fate.Fate.{Fate}
-use Rattle.replay.specs.declared.fate.Fate.TheVariants.{ToTheEnd, BackAfter, CrashAfter, RestartedAfter}
-use Rattle.replay.specs.Fates.{IsBefore, IsFirst, IsWithinCrash, crash_of, most_of}
-use Rattle.replay.specs.Running.{Running, Watching, IsRun, IsHalfway, IsMidCommit, MakesSome, MayTurnBack, ShowsRules, goes_back, actions_left, trial_rest, setting_of, routes_of, trial_left, verdict_of, watching}
+use Rattle.replay.specs.declared.fate.Fate.TheVariants.{Finishes, Turns, Turned}
+use Rattle.replay.specs.declared.fate.Then.TheVariants as thens
+use Rattle.replay.specs.Fates.{IsAhead, IsBefore, IsFirst, IsWithinTurn, is_taken_back, turn_of}
+use Rattle.replay.specs.Running.{Running, Watching, IsRun, IsHalfway, IsMidCommit, MakesSome, ShowsRules, course_held, course_of, setting_of, routes_of, verdict_of, watching}
 use Rattle.replay.specs.Making.{EndsBy, HasCome, MakesAll, ended_line, finished_line, snapshot}
 use Rattle.replay.specs.Reports.{done_line}
 use Rattle.replay.specs.Text.{aborted_line}
 use Rattle.replay.specs.Outside.{outside}
-use Rattle.replay.proofs.making.Acting.{some-held}
+use Rattle.replay.proofs.making.Acting.{one, same-back, some-held, some-slots}
 use Rattle.replay.proofs.course.Course.{count_of}
 use Rattle.replay.proofs.making.Upto.{before-none}
 use Rattle.replay.proofs.lines.Effects.{waiting-append}
-use Rattle.replay.proofs.making.Making.{makes-then, may-be}
-use Rattle.replay.proofs.course.Returning.{IsBack, IsWithin, both-in_use, ends-both, goes-back, number-both, stays-forward}
+use Rattle.replay.proofs.making.Making.{makes-none, makes-then}
+use Rattle.replay.proofs.course.Returning.{both-in_use, ends-both, number-both}
 use Rattle.replay.proofs.between.Runs.{run_after, run_returned, made-run, after-run, returned-run}
 
--- the writes that were told are those that were made
-pub told-from : (run : Running) (half : IsHalfway run) → run.told ≡ 0 + length (writes_in half.some.made)
-told-from run half = let told = half.told in omega arith
+-- ---- the course that a commit takes, by what becomes of it
 
--- an unfinished commit after some actions more, which don't come past its crash
-abbrev pub halfway-more : (run : Running) (now : Managed) (count : Count) → (half : IsHalfway run) → (some : MakesSome (most_of run.fate) run.told run.manager now) → HasCome (watching run) (count_of run) count some.made
-    → IsBefore (crash_of run.fate) 0 (half.some.made ++ some.made) some.left → IsWithinCrash (crash_of run.fate) count.told → IsHalfway (record run { manager = now; told = count.told; waiting = count.waiting })
+pub course-forward : (fate : Fate) (state : State) (held : HeldCommit) → is_taken_back fate ≡ false → course_held fate state held ≡ held
+course-forward Finishes state held on = refl
+course-forward (Turns after then) state held on = refl
+course-forward (Turned after thens.Back) state held on = absurd (cc)
+course-forward (Turned after thens.Restart) state held on = refl
+
+course-way : (fate : Fate) (state : State) (held : HeldCommit) → goes_back held.way ≡ false → goes_back (course_held fate state held).way ≡ is_taken_back fate
+course-way Finishes state held on = on
+course-way (Turns after then) state held on = on
+course-way (Turned after thens.Back) state held on = refl
+course-way (Turned after thens.Restart) state held on = on
+
+pub back-fate : (fate : Fate) → is_taken_back fate ≡ true → (after : ℕ) × (fate ≡ Turned after thens.Back)
+back-fate Finishes back = absurd (cc)
+back-fate (Turns after then) back = absurd (cc)
+back-fate (Turned after thens.Back) back = (after, refl)
+back-fate (Turned after thens.Restart) back = absurd (cc)
+
+pub ahead-forward : (fate : Fate) (writes : ℕ) → IsAhead fate → (is_taken_back fate ≡ false) × IsFirst fate writes
+ahead-forward Finishes writes ahead = (refl, tt)
+ahead-forward (Turns after then) writes ahead = (refl, tt)
+ahead-forward (Turned after then) writes ahead = absurd ahead
+
+-- an unfinished commit after some actions more, which don't come past its turn
+abbrev pub halfway-more : (run : Running) (now : Managed) (count : Count) → (half : IsHalfway run) → (some : MakesSome run.manager now) → HasCome (watching run) (count_of run) count some.made
+    → IsBefore (turn_of run.fate) 0 (half.some.made ++ some.made) some.left → IsWithinTurn (turn_of run.fate) count.told → IsHalfway (record run { manager = now; told = count.told; waiting = count.waiting })
 halfway-more run now count half some come before within =
-    let both = makes-then (most_of run.fate) 0 run.told half.begun run.manager now half.some (told-from run half) some in
     let earlier = half.told in
     let number = come.told in
     let lengths : length (writes_in (half.some.made ++ some.made)) ≡ length (writes_in half.some.made) + length (writes_in some.made) =
     ap length (writes_in-append half.some.made some.made) ∙ length-append (writes_in half.some.made) (writes_in some.made) in
     record {
       begun = half.begun;
-      first = half.first;
       plain = half.plain;
       holds = half.holds;
       accepted = half.accepted;
       shows = half.shows;
-      some = both;
+      first = half.first;
+      some = makes-then (course_of run.fate half.begun (commit_of half.begun run.pending half.holds.1.made half.holds.0)) run.manager now half.some some;
       told = omega arith;
       waiting = come.waiting ∙ ap (λ waiting. waiting_after run.depth waiting some.made) half.waiting ∙ sym (waiting-append run.depth 0 half.some.made some.made);
       before = before;
@@ -65,59 +86,53 @@ halfway-more run now count half some come before within =
     }
 
 -- a commit that was taken, before its first write
-abbrev pub halfway-none : (run : Running) → IsFirst run.fate → run.asked ≡ Nothing → (counts : Done) → (holds : Holds (record run.manager { held = None }) run.pending counts run.manager) → verdict_of run ≡ Accepted → ShowsRules (record run.manager { held = None })
+abbrev pub halfway-none : (run : Running) → IsAhead run.fate → run.asked ≡ Nothing → (counts : Done) → (holds : Holds (record run.manager { held = None }) run.pending counts run.manager) → verdict_of run ≡ Accepted → ShowsRules (record run.manager { held = None })
     → run.told ≡ 0 → run.waiting ≡ 0 → IsHalfway run
-halfway-none run first plain counts holds accepted shows told waiting =
-    let held : HeldCommit = commit_of (record run.manager { held = None }) run.pending holds.made counts in
-    let held_is : run.manager.held ≡ Some held = ap (λ (manager : Managed). manager.held) holds.new_is in record {
+halfway-none run ahead plain counts holds accepted shows told waiting =
+    let held : HeldCommit = commit_of run.manager run.pending holds.made counts in
+    let held_is : run.manager.held ≡ Some held = ap (λ (manager : Managed). manager.held) holds.new_is in
+    let first = ahead-forward run.fate (length holds.made) ahead in record {
       begun = run.manager;
-      first = first;
       plain = plain;
       holds = (counts, holds);
       accepted = accepted;
       shows = shows;
+      first = first.1;
       some = record {
         held = held;
         made = [];
-        left = actions_left (trial_rest (most_of run.fate) 0) run.manager.state held;
-        held_is = held_is;
+        left = held.actions;
+        current = held.current;
+        held_is = ap Some (course-forward run.fate run.manager.state held first.0);
         whole = refl;
-        one = held;
-        now_is = ap (λ one. record run.manager { held = one }) held_is;
-        left_is = refl;
-        same = record { prepared = refl; counts = refl; rules = refl; during = refl; bits = refl; back = refl };
+        now_is = (makes-none run.manager held held_is).now_is;
       };
       told = told;
       waiting = waiting;
-      before = before-none (crash_of run.fate) 0 (actions_left (trial_rest (most_of run.fate) 0) run.manager.state held);
-      within = none-told (crash_of run.fate) run.told told;
+      before = before-none (turn_of run.fate) 0 held.actions;
+      within = none-told (turn_of run.fate) run.told told;
     }
   where
-    none-told : (stop : Option ℕ) (told : ℕ) → told ≡ 0 → IsWithinCrash stop told
+    none-told : (stop : Option ℕ) (told : ℕ) → told ≡ 0 → IsWithinTurn stop told
     none-told None told none = tt
     none-told (Some after) told none = omega arith
 
 module _ (run : Running) (half : IsHalfway run) where
   -- the run when the commit began
   abbrev pub run_begun : Running
-  run_begun = record run { manager = half.begun; told = 0; waiting = 0 }
+  run_begun = record run { manager = half.begun; told = 0; waiting = 0; fate = Finishes }
 
   -- the commit, with all of its writes
   abbrev pub begun-holds : Holds (record half.begun { held = None }) run.pending half.holds.0 half.begun
   begun-holds = half.holds.1
 
   abbrev pub held_begun : HeldCommit
-  held_begun = commit_of (record half.begun { held = None }) run.pending begun-holds.made half.holds.0
+  held_begun = commit_of half.begun run.pending begun-holds.made half.holds.0
 
-  pub held-same : half.some.held ≡ held_begun
+  held-same : half.some.held ≡ course_held run.fate half.begun.state held_begun
   held-same =
-      let both : Some half.some.held ≡ Some held_begun = sym half.some.held_is ∙ ap (λ (manager : Managed). manager.held) begun-holds.new_is in
+      let both : Some half.some.held ≡ Some (course_held run.fate half.begun.state held_begun) = sym half.some.held_is in
       cc
-
-  -- it can be taken back
-  pub may-half : MayTurnBack (most_of run.fate) run.manager.held
-  may-half =
-      may-be (most_of run.fate) run.manager.held half.some.one (some-held (most_of run.fate) 0 half.begun run.manager half.some) (half.some.same.prepared ∙ ap (λ (one : HeldCommit). one.prepared) held-same)
 
   -- all actions, there and back where it is taken back: those that were made and those that are left
   abbrev pub whole_actions : List Action
@@ -125,44 +140,64 @@ module _ (run : Running) (half : IsHalfway run) where
 
   -- whether it is taken back
   abbrev pub is_back : Bool
-  is_back = goes_back (trial_rest (most_of run.fate) 0) held_begun
+  is_back = is_taken_back run.fate
 
-  pub begun-actions : actions_left (trial_rest (most_of run.fate) 0) half.begun.state held_begun ≡ whole_actions
-  begun-actions = ap (λ (held : HeldCommit). actions_left (trial_rest (most_of run.fate) 0) half.begun.state held) (sym held-same) ∙ half.some.whole
+  pub held-forward : is_back ≡ false → half.some.held ≡ held_begun
+  held-forward on = held-same ∙ course-forward run.fate half.begun.state held_begun on
+
+  -- the commit that is held goes the same way
+  pub way-same : goes_back (one (course_of run.fate half.begun held_begun) run.manager half.some).way ≡ is_back
+  way-same =
+      same-back half.begun.state (writes_in half.some.made) half.some.held.way ∙ ap (λ (held : HeldCommit). goes_back held.way) held-same
+      ∙ course-way run.fate half.begun.state held_begun refl
 
   begun-writes : writes_in held_begun.actions ≡ begun-holds.made
   begun-writes =
       let bits : FieldBits = bits_with half.begun.mode half.begun.rules run.pending half.begun.bits in
       writes_of_commit (have_bits (new_bits half.begun.bits bits)) begun-holds.made
 
+  pub begun-size : length (writes_in held_begun.actions) ≡ length begun-holds.made
+  begun-size = ap length begun-writes
+
   pub begun-in_use : AllByRecursion (IsInUse half.begun.slots) (writes_in held_begun.actions)
   begun-in_use = subst (AllByRecursion (IsInUse half.begun.slots)) (sym begun-writes) begun-holds.in_use
 
   -- one that isn't makes the actions of the commit
-  pub whole-forward : is_back ≡ false → (whole_actions ≡ held_begun.actions) × (writes_in whole_actions ≡ begun-holds.made) × IsWithin (most_of run.fate) (length begun-holds.made)
+  pub whole-forward : is_back ≡ false → (whole_actions ≡ held_begun.actions) × (writes_in whole_actions ≡ begun-holds.made)
   whole-forward on =
-      let all = stays-forward (most_of run.fate) half.begun.state held_begun.actions [] on in
-      let whole : whole_actions ≡ held_begun.actions = sym begun-actions ∙ all.0 in
-      (whole, ap writes_in whole ∙ begun-writes, subst (λ writes. IsWithin (most_of run.fate) (length writes)) begun-writes all.1)
+      let whole : whole_actions ≡ held_begun.actions = sym half.some.whole ∙ ap (λ (held : HeldCommit). held.actions) (held-forward on) in
+      (whole, ap writes_in whole ∙ begun-writes)
 
-  abbrev pub back-parts : is_back ≡ true → IsBack (most_of run.fate) half.begun.state held_begun.actions (actions_left (trial_rest (most_of run.fate) 0) half.begun.state held_begun) []
-  back-parts back = goes-back (most_of run.fate) half.begun.state held_begun.actions [] back
+  -- so these are those that were told and those that are left
+  pub all-writes : is_back ≡ false → length begun-holds.made ≡ run.told + length (writes_in half.some.left)
+  all-writes on =
+      let told = half.told in
+      let parts : length (writes_in whole_actions) ≡ length (writes_in half.some.made) + length (writes_in half.some.left) =
+      ap length (writes_in-append half.some.made half.some.left) ∙ length-append (writes_in half.some.made) (writes_in half.some.left) in
+      let whole : length (writes_in whole_actions) ≡ length begun-holds.made = ap length (whole-forward on).1 in
+      omega arith
 
   -- one that is makes the first of them, and undoes those
-  pub whole-back : (back : is_back ≡ true) → whole_actions ≡ trial_left (back-parts back).limit half.begun.state held_begun.actions []
-  whole-back back = sym begun-actions ∙ (back-parts back).left_is
+  abbrev pub back-parts : is_back ≡ true → (after : ℕ) × (run.fate ≡ Turned after thens.Back)
+  back-parts back = back-fate run.fate back
 
-  pub back-more : (back : is_back ≡ true) → (back-parts back).limit < length begun-holds.made
-  back-more back = subst (λ writes. (back-parts back).limit < length writes) begun-writes (back-parts back).more
+  pub whole-back : (back : is_back ≡ true) → whole_actions ≡ back_from half.begun.state (up_to_writes (back-parts back).0 held_begun.actions)
+  whole-back back =
+      sym half.some.whole ∙ ap (λ (held : HeldCommit). held.actions) held-same
+      ∙ ap (λ (fate : Fate). (course_held fate half.begun.state held_begun).actions) (back-parts back).1
 
-  pub back-number : (back : is_back ≡ true) → length (writes_in whole_actions) ≡ 2 * (back-parts back).limit
+  pub back-more : (back : is_back ≡ true) → (back-parts back).0 < length begun-holds.made
+  back-more back = subst (λ (fate : Fate). IsFirst fate (length begun-holds.made)) (back-parts back).1 half.first
+
+  pub back-number : (back : is_back ≡ true) → length (writes_in whole_actions) ≡ 2 * (back-parts back).0
   back-number back =
-      let more = (back-parts back).more in
-      ap (λ actions. length (writes_in actions)) (whole-back back) ∙ number-both (back-parts back).limit half.begun.state held_begun.actions (omega arith)
+      let more = back-more back in
+      let size = begun-size in
+      ap (λ actions. length (writes_in actions)) (whole-back back) ∙ number-both (back-parts back).0 half.begun.state held_begun.actions (omega arith)
 
   pub back-ends : is_back ≡ true → state_after half.begun.state (writes_in whole_actions) ≡ half.begun.state
   back-ends back =
-      ap (λ actions. state_after half.begun.state (writes_in actions)) (whole-back back) ∙ ends-both (back-parts back).limit half.begun.state held_begun.actions
+      ap (λ actions. state_after half.begun.state (writes_in actions)) (whole-back back) ∙ ends-both half.begun.state (up_to_writes (back-parts back).0 held_begun.actions)
 
   -- each write is to a slot in use
   pub whole-in_use : AllByRecursion (IsInUse half.begun.slots) (writes_in whole_actions)
@@ -172,7 +207,7 @@ module _ (run : Running) (half : IsHalfway run) where
       go false on = subst (AllByRecursion (IsInUse half.begun.slots)) (sym (whole-forward on).1) begun-holds.in_use
       go true back =
           subst (λ actions. AllByRecursion (IsInUse half.begun.slots) (writes_in actions)) (sym (whole-back back))
-          (both-in_use half.begun.slots (back-parts back).limit half.begun.state held_begun.actions begun-in_use)
+          (both-in_use half.begun.slots (back-parts back).0 half.begun.state held_begun.actions begun-in_use)
 
   -- few writes are made in all
   pub whole-few : length (writes_in whole_actions) ≤ 2 ^ 40 - 1
@@ -202,21 +237,19 @@ module _ (run : Running) (half : IsHalfway run) where
     size = sym (slots-after half.begun.state (writes_in half.some.made)) ∙ subst (λ (manager : Managed). length manager.state.slots ≡ manager.slots) half.some.now_is is.size;
     few = is.few;
     shows = λ idle. absurd (let none : Some held_begun ≡ None = sym (ap (λ (manager : Managed). manager.held) begun-holds.new_is) ∙ idle in cc);
-    halfway = λ some. inl (halfway-none run_begun half.first half.plain half.holds.0 half.holds.1 half.accepted half.shows refl refl);
+    halfway = λ some. inl (halfway-none run_begun tt half.plain half.holds.0 half.holds.1 half.accepted half.shows refl refl);
     idle = λ none. absurd (let none : Some held_begun ≡ None = sym (ap (λ (manager : Managed). manager.held) begun-holds.new_is) ∙ none in cc);
   }
 
   -- few writes were told or are left
-  pub few-left : IfSome run.manager.held (λ held. run.told + length (writes_in (actions_left (trial_rest (most_of run.fate) run.told) run.manager.state held)) ≤ 2 ^ 40)
+  pub few-left : IfSome run.manager.held (λ held. run.told + length (writes_in held.actions) ≤ 2 ^ 40)
   few-left =
       let few = whole-few in
       let all : length (writes_in whole_actions) ≡ length (writes_in half.some.made) + length (writes_in half.some.left) =
       ap length (writes_in-append half.some.made half.some.left) ∙ length-append (writes_in half.some.made) (writes_in half.some.left) in
       let told = half.told in
-      let left : actions_left (trial_rest (most_of run.fate) run.told) run.manager.state half.some.one ≡ half.some.left = ap (λ n. actions_left (trial_rest (most_of run.fate) n) run.manager.state half.some.one) (told-from run half) ∙ half.some.left_is in
-      let number : length (writes_in (actions_left (trial_rest (most_of run.fate) run.told) run.manager.state half.some.one)) ≡ length (writes_in half.some.left) = ap (λ actions. length (writes_in actions)) left in
-      let most : run.told + length (writes_in (actions_left (trial_rest (most_of run.fate) run.told) run.manager.state half.some.one)) ≤ 2 ^ 40 = omega arith in
-      subst (λ held. IfSome held (λ (one : HeldCommit). run.told + length (writes_in (actions_left (trial_rest (most_of run.fate) run.told) run.manager.state one)) ≤ 2 ^ 40)) (sym (some-held (most_of run.fate) 0 half.begun run.manager half.some)) most
+      let most : run.told + length (writes_in half.some.left) ≤ 2 ^ 40 = omega arith in
+      subst (λ held. IfSome held (λ (x : HeldCommit). run.told + length (writes_in x.actions) ≤ 2 ^ 40)) (sym (some-held (course_of run.fate half.begun held_begun) run.manager half.some)) most
 
   -- the line that it ends with
   abbrev pub line_by : Bool → List ℕ
@@ -235,7 +268,7 @@ module _ (run : Running) (half : IsHalfway run) where
   run_ended = ended_by is_back
 
 -- a run whose commit was cut
-pub cut-run : (run : Running) (now : Managed) (count : Count) → IsRun run → (some : MakesSome (most_of run.fate) run.told run.manager now) → IsMidCommit (record run { manager = now; told = count.told; waiting = count.waiting })
+pub cut-run : (run : Running) (now : Managed) (count : Count) → IsRun run → (some : MakesSome run.manager now) → IsMidCommit (record run { manager = now; told = count.told; waiting = count.waiting })
     → IsRun (record run { manager = now; told = count.told; waiting = count.waiting })
 cut-run run now count is some under_way = record {
   changes = is.changes;
@@ -245,55 +278,27 @@ cut-run run now count is some under_way = record {
   most_slots = subst (λ (manager : Managed). manager.slots ≤ most_slots) (sym some.now_is) is.most_slots;
   size = subst (λ (manager : Managed). length manager.state.slots ≡ manager.slots) (sym some.now_is) (slots-after run.manager.state (writes_in some.made) ∙ is.size);
   few = is.few;
-  shows = λ idle. absurd (let none : Some some.one ≡ None = sym (some-held (most_of run.fate) run.told run.manager now some) ∙ idle in cc);
+  shows = λ idle. absurd (let none : Some (one run.manager now some) ≡ None = sym (some-held run.manager now some) ∙ idle in cc);
   halfway = λ _. under_way;
-  idle = λ idle. absurd (let none : Some some.one ≡ None = sym (some-held (most_of run.fate) run.told run.manager now some) ∙ idle in cc);
+  idle = λ idle. absurd (let none : Some (one run.manager now some) ≡ None = sym (some-held run.manager now some) ∙ idle in cc);
 }
 
 -- once the actions that were left are made
 module _ (Seen : Type 0) (run : Running) (half : IsHalfway run) (watch : Watching) (slots : ℕ) (count_now : Count) (end : Ended) (now : Managed) (events events_now : List Action) (taken taken_now : Option (List ℕ))
-    (all : MakesAll Seen (most_of run.fate) watch slots (snapshot run.manager (count_of run) (outside events taken)) end (snapshot now count_now (outside events_now taken_now))) where
-  held-one : all.held ≡ half.some.one
+    (all : MakesAll Seen watch slots (snapshot run.manager (count_of run) (outside events taken)) end (snapshot now count_now (outside events_now taken_now))) where
+  abbrev course : Managed
+  course = course_of run.fate half.begun (held_begun run half)
+
+  held-one : all.held ≡ one course run.manager half.some
   held-one =
-      let both : Some all.held ≡ Some half.some.one = sym all.held_is ∙ some-held (most_of run.fate) 0 half.begun run.manager half.some in
+      let both : Some all.held ≡ Some (one course run.manager half.some) = sym all.held_is ∙ some-held course run.manager half.some in
       cc
 
   pub actions-left : all.actions ≡ half.some.left
-  actions-left =
-      all.actions_are ∙ ap (actions_left (trial_rest (most_of run.fate) run.told) run.manager.state) held-one
-      ∙ ap (λ n. actions_left (trial_rest (most_of run.fate) n) run.manager.state half.some.one) (told-from run half) ∙ half.some.left_is
+  actions-left = all.actions_are ∙ ap (λ (held : HeldCommit). held.actions) held-one
 
-  back-same : goes_back (trial_rest (most_of run.fate) run.told) all.held ≡ is_back run half
-  back-same =
-      ap (goes_back (trial_rest (most_of run.fate) run.told)) held-one ∙ ap (λ n. goes_back (trial_rest (most_of run.fate) n) half.some.one) (told-from run half)
-      ∙ half.some.same.back ∙ ap (goes_back (trial_rest (most_of run.fate) 0)) (held-same run half)
-
-  ends-so : EndsBy (is_back run half) run.manager half.some.one half.some.left end now
-  ends-so =
-      subst (λ back. EndsBy back run.manager half.some.one half.some.left end now) back-same
-      (subst (λ held. EndsBy (goes_back (trial_rest (most_of run.fate) run.told) all.held) run.manager held half.some.left end now) held-one
-      (subst (λ actions. EndsBy (goes_back (trial_rest (most_of run.fate) run.told) all.held) run.manager all.held actions end now) actions-left all.ends))
-
-  pub slots-now : now.slots ≡ run.manager.slots
-  slots-now = go end all.ends
-    where
-      go : (end : Ended) → EndsBy (goes_back (trial_rest (most_of run.fate) run.told) all.held) run.manager all.held all.actions end now → now.slots ≡ run.manager.slots
-      go (ended.Finished done) ends = ap (λ (manager : Managed). manager.slots) ends.2
-      go ended.Reverted ends = ap (λ (manager : Managed). manager.slots) ends.1
-
-  pub idle-now : now.held ≡ None
-  idle-now = go end all.ends
-    where
-      go : (end : Ended) → EndsBy (goes_back (trial_rest (most_of run.fate) run.told) all.held) run.manager all.held all.actions end now → now.held ≡ None
-      go (ended.Finished done) ends = ap (λ (manager : Managed). manager.held) ends.2
-      go ended.Reverted ends = ap (λ (manager : Managed). manager.held) ends.1
-
-  setting-now : setting_of (record run { manager = now }) ≡ setting_of run
-  setting-now = go end all.ends
-    where
-      go : (end : Ended) → EndsBy (goes_back (trial_rest (most_of run.fate) run.told) all.held) run.manager all.held all.actions end now → setting_of (record run { manager = now }) ≡ setting_of run
-      go (ended.Finished done) ends = ap (λ (manager : Managed). setting_of (record run { manager = manager })) ends.2
-      go ended.Reverted ends = ap (λ (manager : Managed). setting_of (record run { manager = manager })) ends.1
+  back-same : goes_back all.held.way ≡ is_back run half
+  back-same = ap (λ (held : HeldCommit). goes_back held.way) held-one ∙ way-same run half
 
   -- all writes lead from where it began to here
   state-whole : state_after (state_after half.begun.state (writes_in half.some.made)) (writes_in half.some.left) ≡ state_after half.begun.state (writes_in (whole_actions run half))
@@ -312,30 +317,41 @@ module _ (Seen : Type 0) (run : Running) (half : IsHalfway run) (watch : Watchin
 
   -- the manager is that of the run behind it
   pub now-same : now ≡ (run_ended run half).manager
-  now-same = go end ends-so
+  now-same = go end all.ends
     where
-      held : HeldCommit
-      held = half.some.one
+      at : State → HeldCommit → Managed
+      at state held = record half.begun { state = state; rules = held.rules; bits = held.bits; held = None }
 
-      rules-same : held.rules ≡ (held_begun run half).rules
-      rules-same = half.some.same.rules ∙ ap (λ (one : HeldCommit). one.rules) (held-same run half)
-
-      bits-same : held.bits ≡ (held_begun run half).bits
-      bits-same = half.some.same.bits ∙ ap (λ (one : HeldCommit). one.bits) (held-same run half)
-
-      go : (end : Ended) → EndsBy (is_back run half) run.manager half.some.one half.some.left end now → now ≡ (run_ended run half).manager
+      go : (end : Ended) → EndsBy run.manager all.held all.actions end now → now ≡ (run_ended run half).manager
       go (ended.Finished done) ends =
+          let on = sym back-same ∙ ends.0 in
           ends.2
-          ∙ ap (λ (manager : Managed). record manager { state = state_after manager.state (writes_in half.some.left); rules = held.rules; bits = held.bits; held = None }) half.some.now_is
-          ∙ ap (λ (state : State). record half.begun { state = state; rules = held.rules; bits = held.bits; held = None }) (state-whole ∙ ap (state_after half.begun.state) (whole-forward run half ends.0).1)
-          ∙ ap (λ (rules : List Rule). record half.begun { state = state_after half.begun.state (begun-holds run half).made; rules = rules; bits = held.bits; held = None }) rules-same
-          ∙ ap (λ (bits : FieldBits). record half.begun { state = state_after half.begun.state (begun-holds run half).made; rules = (held_begun run half).rules; bits = bits; held = None }) bits-same
-          ∙ ap (λ back. (ended_by run half back).manager) (sym ends.0)
+          ∙ ap (λ (held : HeldCommit). record run.manager { state = state_after run.manager.state (writes_in all.actions); rules = held.rules; bits = held.bits; held = None }) held-one
+          ∙ ap (λ actions. record run.manager { state = state_after run.manager.state (writes_in actions); rules = half.some.held.rules; bits = half.some.held.bits; held = None }) actions-left
+          ∙ ap (λ (manager : Managed). record manager { state = state_after manager.state (writes_in half.some.left); rules = half.some.held.rules; bits = half.some.held.bits; held = None }) half.some.now_is
+          ∙ ap (λ (state : State). at state half.some.held) (state-whole ∙ ap (state_after half.begun.state) (whole-forward run half on).1)
+          ∙ ap (at (state_after half.begun.state (begun-holds run half).made)) (held-forward run half on)
+          ∙ ap (λ back. (ended_by run half back).manager) (sym on)
       go ended.Reverted ends =
           ends.1
+          ∙ ap (λ actions. record run.manager { state = state_after run.manager.state (writes_in actions); held = None }) actions-left
           ∙ ap (λ (manager : Managed). record manager { state = state_after manager.state (writes_in half.some.left); held = None }) half.some.now_is
           ∙ ap (λ (state : State). record half.begun { state = state; held = None }) state-whole
-          ∙ ap (λ back. (ended_by run half back).manager) (sym ends.0)
+          ∙ ap (λ back. (ended_by run half back).manager) (sym (sym back-same ∙ ends.0))
+
+  pub slots-now : now.slots ≡ run.manager.slots
+  slots-now = ap (λ (manager : Managed). manager.slots) now-same ∙ go (is_back run half) ∙ sym (some-slots course run.manager half.some)
+    where
+      go : (back : Bool) → (ended_by run half back).manager.slots ≡ half.begun.slots
+      go true = refl
+      go false = refl
+
+  pub idle-now : now.held ≡ None
+  idle-now = ap (λ (manager : Managed). manager.held) now-same ∙ go (is_back run half)
+    where
+      go : (back : Bool) → (ended_by run half back).manager.held ≡ None
+      go true = refl
+      go false = refl
 
   -- the run once it is counted
   pub ended-writes : (back : Bool) → is_back run half ≡ back → run.writes + count_now.told ≡ (ended_by run half back).writes
@@ -348,11 +364,11 @@ module _ (Seen : Type 0) (run : Running) (half : IsHalfway run) (watch : Watchin
   few-made = subst (λ n. n ≤ 2 ^ 40 - 1) (sym number-whole) (whole-few run half)
 
   -- before its batch is dropped
-  pub made-run_held : IsRun run → IsRun (record run { manager = now; told = 0; waiting = 0; fate = ToTheEnd })
+  pub made-run_held : IsRun run → IsRun (record run { manager = now; told = 0; waiting = 0; fate = Finishes })
   made-run_held is =
-      subst (λ (manager : Managed). IsRun (record run { manager = manager; told = 0; waiting = 0; fate = ToTheEnd })) (sym now-same) (go (is_back run half) refl)
+      subst (λ (manager : Managed). IsRun (record run { manager = manager; told = 0; waiting = 0; fate = Finishes })) (sym now-same) (go (is_back run half) refl)
     where
-      go : (back : Bool) → is_back run half ≡ back → IsRun (record run { manager = (ended_by run half back).manager; told = 0; waiting = 0; fate = ToTheEnd })
+      go : (back : Bool) → is_back run half ≡ back → IsRun (record run { manager = (ended_by run half back).manager; told = 0; waiting = 0; fate = Finishes })
       go true back =
           returned-run (run_begun run half) half.holds.0 (begun-is run half is) half.holds.1 run.pending run.commits run.writes (writes_in (whole_actions run half)) is.changes is.few (back-ends run half back) half.shows
       go false on = made-run (run_begun run half) half.holds.0 (begun-is run half is) half.holds.1 run.pending run.commits run.writes is.changes is.few
@@ -370,46 +386,43 @@ module _ (Seen : Type 0) (run : Running) (half : IsHalfway run) (watch : Watchin
       go false on = after-run (run_begun run half) half.holds.0 (begun-is run half is) half.holds.1
 
   -- and its batch is dropped
-  module _ (counted : Running) (closed : counted ≡ record run { manager = now; told = 0; waiting = 0; fate = ToTheEnd; pending = []; commits = run.commits + 1 }) where
+  module _ (counted : Running) (closed : counted ≡ record run { manager = now; told = 0; waiting = 0; fate = Finishes; pending = []; commits = run.commits + 1 }) where
     pub after-writes : ◌≡◌ {A = Running} (record counted { writes = counted.writes + count_now.told }) (run_ended run half)
     after-writes =
         ap (λ (r : Running). record r { writes = r.writes + count_now.told }) closed
-        ∙ ap (λ (manager : Managed). record run { manager = manager; told = 0; waiting = 0; fate = ToTheEnd; pending = []; commits = run.commits + 1; writes = run.writes + count_now.told }) now-same
+        ∙ ap (λ (manager : Managed). record run { manager = manager; told = 0; waiting = 0; fate = Finishes; pending = []; commits = run.commits + 1; writes = run.writes + count_now.told }) now-same
         ∙ go (is_back run half) refl
       where
         go : (back : Bool) → is_back run half ≡ back
-            → ◌≡◌ {A = Running} (record run { manager = (ended_by run half (is_back run half)).manager; told = 0; waiting = 0; fate = ToTheEnd; pending = []; commits = run.commits + 1; writes = run.writes + count_now.told }) (ended_by run half (is_back run half))
+            → ◌≡◌ {A = Running} (record run { manager = (ended_by run half (is_back run half)).manager; told = 0; waiting = 0; fate = Finishes; pending = []; commits = run.commits + 1; writes = run.writes + count_now.told }) (ended_by run half (is_back run half))
         go back same =
-            subst (λ one. ◌≡◌ {A = Running} (record run { manager = (ended_by run half one).manager; told = 0; waiting = 0; fate = ToTheEnd; pending = []; commits = run.commits + 1; writes = run.writes + count_now.told }) (ended_by run half one)) (sym same)
+            subst (λ one. ◌≡◌ {A = Running} (record run { manager = (ended_by run half one).manager; told = 0; waiting = 0; fate = Finishes; pending = []; commits = run.commits + 1; writes = run.writes + count_now.told }) (ended_by run half one)) (sym same)
             (by back same)
           where
             by : (back : Bool) → is_back run half ≡ back
-                → ◌≡◌ {A = Running} (record run { manager = (ended_by run half back).manager; told = 0; waiting = 0; fate = ToTheEnd; pending = []; commits = run.commits + 1; writes = run.writes + count_now.told }) (ended_by run half back)
+                → ◌≡◌ {A = Running} (record run { manager = (ended_by run half back).manager; told = 0; waiting = 0; fate = Finishes; pending = []; commits = run.commits + 1; writes = run.writes + count_now.told }) (ended_by run half back)
             by true same = ap (λ n. record (ended_by run half true) { writes = n }) (ended-writes true same)
             by false same = ap (λ n. record (ended_by run half false) { writes = n }) (ended-writes false same)
 
     pub after-writes_run : IsRun run → IsRun (record counted { writes = counted.writes + count_now.told })
     after-writes_run is = subst IsRun (sym after-writes) (ended-run is)
 
-    pub setting-counted : setting_of (record counted { writes = counted.writes + count_now.told }) ≡ setting_of run
-    setting-counted = ap (λ (r : Running). setting_of (record r { writes = r.writes + count_now.told })) closed ∙ setting-now
-
     -- the line is that of its end
     pub line-same : ended_line counted.json counted.early counted.commits run.fate end count_now.told ≡ line run half
-    line-same = go end ends-so
+    line-same = go end all.ends
       where
-        first-line : (fate : Fate) → IsFirst fate → (done : Done) → finished_line counted.json counted.early counted.commits fate done count_now.told ≡ done_line counted.json counted.early counted.commits done
-        first-line ToTheEnd first done = refl
-        first-line (BackAfter most) first done = refl
-        first-line (CrashAfter after) first done = refl
-        first-line (RestartedAfter after) first done = absurd first
+        first-line : (fate : Fate) → IsFirst fate (length (begun-holds run half).made) → is_taken_back fate ≡ false → (done : Done)
+            → finished_line counted.json counted.early counted.commits fate done count_now.told ≡ done_line counted.json counted.early counted.commits done
+        first-line Finishes first on done = refl
+        first-line (Turns after then) first on done = refl
+        first-line (Turned after thens.Back) first on done = absurd (cc)
+        first-line (Turned after thens.Restart) first on done = absurd first
 
-        counts-same : half.some.one.counts ≡ half.holds.0
-        counts-same = half.some.same.counts ∙ ap (λ (one : HeldCommit). one.counts) (held-same run half)
-
-        go : (end : Ended) → EndsBy (is_back run half) run.manager half.some.one half.some.left end now → ended_line counted.json counted.early counted.commits run.fate end count_now.told ≡ line run half
+        go : (end : Ended) → EndsBy run.manager all.held all.actions end now → ended_line counted.json counted.early counted.commits run.fate end count_now.told ≡ line run half
         go (ended.Finished done) ends =
-            first-line run.fate half.first done
-            ∙ ap (λ (r : Running). done_line r.json r.early r.commits done) closed ∙ ap (done_line run.json run.early (run.commits + 1)) (ends.1 ∙ counts-same) ∙ ap (line_by run half) (sym ends.0)
+            let on = sym back-same ∙ ends.0 in
+            let counts : done ≡ half.holds.0 = ends.1 ∙ ap (λ (held : HeldCommit). held.counts) held-one ∙ ap (λ (held : HeldCommit). held.counts) (held-forward run half on) in
+            first-line run.fate half.first on done
+            ∙ ap (λ (r : Running). done_line r.json r.early r.commits done) closed ∙ ap (done_line run.json run.early (run.commits + 1)) counts ∙ ap (line_by run half) (sym on)
         go ended.Reverted ends =
-            ap (λ (r : Running). aborted_line r.commits count_now.told) closed ∙ ap (aborted_line (run.commits + 1)) number-whole ∙ ap (line_by run half) (sym ends.0)
+            ap (λ (r : Running). aborted_line r.commits count_now.told) closed ∙ ap (aborted_line (run.commits + 1)) number-whole ∙ ap (line_by run half) (sym (sym back-same ∙ ends.0))

@@ -15,6 +15,7 @@ use Rattle.replay.specs.declared.watch.Count.{Count}
 use Rattle.replay.specs.declared.RunFault.TheVariants as fault
 use Rattle.replay.specs.declared.fate.Fate.{Fate}
 use Rattle.replay.specs.declared.fate.Fate.TheVariants as fates
+use Rattle.replay.specs.declared.fate.Then.TheVariants as thens
 use Rattle.replay.specs.Effects.{Effect}
 use Rattle.replay.specs.Run.{Progress}
 use Rattle.replay.specs.Carried.{IsAt}
@@ -60,7 +61,7 @@ in-step-cut slots inside run is same now count events_old events_new flight_old 
     (seen.on, seen.current)
 
 -- and where all of them are made no word is in flight
-pub in-step-done : (slots : ℕ) (inside run : Running) → IsRun inside → inside ≡ run → (now : Managed) (counted : Running) (told : ℕ) → counted ≡ record inside { manager = now; told = 0; waiting = 0; fate = fates.ToTheEnd; pending = []; commits = inside.commits + 1 } → (events_old events_mid events_new : List Action) (flight_old flight_mid flight_new : Flight)
+pub in-step-done : (slots : ℕ) (inside run : Running) → IsRun inside → inside ≡ run → (now : Managed) (counted : Running) (told : ℕ) → counted ≡ record inside { manager = now; told = 0; waiting = 0; fate = fates.Finishes; pending = []; commits = inside.commits + 1 } → (events_old events_mid events_new : List Action) (flight_old flight_mid flight_new : Flight)
     → (IsSeen slots events_old flight_old inside.manager → IsSeen slots events_mid flight_mid now) → events_new ≡ events_mid → flight_new ≡ [] → StaysInStep slots run (record counted { writes = counted.writes + told }) events_old events_new flight_old flight_new
 in-step-done slots inside run is same now counted told counted_is events_old events_mid events_new flight_old flight_mid flight_new stays kept none = λ whole at current.
     let seen = stays (record {
@@ -108,10 +109,10 @@ memory_wanted-so fate (Err why) broken is (inr (inl device)) = λ lost. absurd (
 memory_wanted-so fate (Err why) broken is (inr (inr (memory, crashes))) = λ lost. (ap (λ one. Err (Stopped one)) memory, crash fate crashes)
   where
     crash : (fate : Fate) → IsToCrash fate → IsCrash (commit_act fate)
-    crash fates.ToTheEnd crashes = absurd crashes
-    crash (fates.BackAfter most) crashes = absurd crashes
-    crash (fates.CrashAfter after) crashes = tt
-    crash (fates.RestartedAfter after) crashes = absurd crashes
+    crash fates.Finishes crashes = absurd crashes
+    crash (fates.Turns after thens.Back) crashes = absurd crashes
+    crash (fates.Turns after thens.Restart) crashes = tt
+    crash (fates.Turned after then) crashes = absurd crashes
 
 -- with the sink's failure marked, too
 pub sink_failed-marked : (act : Act) (result : Result (Unit {0}) ActFault) (mid now : Bool) → now ≡ (mid || sink_failed result) → AnswersLost act result mid → AnswersBroken act result now

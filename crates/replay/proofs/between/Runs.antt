@@ -23,7 +23,7 @@ use Rattle.replay.specs.Run.{Progress, AreCommitWrites, Commits, Returns, OfFami
 use Rattle.replay.specs.Reports.{done_line}
 use Rattle.replay.specs.Text.{aborted_line}
 use Rattle.replay.specs.Crashing.{after_loss}
-use Rattle.replay.specs.declared.fate.Fate.TheVariants.{ToTheEnd}
+use Rattle.replay.specs.declared.fate.Fate.TheVariants.{Finishes}
 use Rattle.replay.specs.Running.{Running, IsHalfway, IsOnward, IsRun, IsMidCommit, setting_of, progress_of, begun, routes_of, IsChangeOf, ShowsRules}
 use Rattle.settled_changes.specs.declared.Request.{Request}
 use Rattle.settled_changes.specs.declared.requested.Requested.{Requested}
@@ -172,7 +172,7 @@ run_after run made counts =
       writes = run.writes + counts.writes;
       told = 0;
       waiting = 0;
-      fate = ToTheEnd;
+      fate = Finishes;
     }
 
 -- the run after a trial that was taken back by these writes, there and back
@@ -185,7 +185,7 @@ run_returned run both =
       writes = run.writes + length both;
       told = 0;
       waiting = 0;
-      fate = ToTheEnd;
+      fate = Finishes;
     }
 
 -- the slots in use of a device are those of the manager

@@ -8,6 +8,7 @@ use Rattle.settled_changes.specs.declared.requested.Requested.TheVariants.{Nothi
 use Rattle.replay.specs.declared.Act.TheVariants as acts
 use Rattle.replay.specs.declared.fate.Fate.{Fate}
 use Rattle.replay.specs.declared.fate.Fate.TheVariants as fates
+use Rattle.replay.specs.declared.fate.Then.TheVariants as thens
 use Rattle.settled_changes.specs.Requested.{IsAsked, TakesAsked, settled_batch, settled_verdict}
 use Rattle.settled_changes.proofs.AskedFor.{verdict-taken}
 use Rattle.replay.specs.Effects.{Setting, Effect}
@@ -65,10 +66,11 @@ may-settle setting old (Whole requests) is = tt
 
 -- a commit that takes memory before it does anything
 pub wants-first : (setting : Setting) (before : Progress) (fate : Fate) → MayWant setting before before.asked → TakesMemory setting before (commit_act fate) []
-wants-first setting before fates.ToTheEnd may = (may, refl)
-wants-first setting before (fates.BackAfter most) may = (may, refl)
-wants-first setting before (fates.CrashAfter after) may = inl (may, refl)
-wants-first setting before (fates.RestartedAfter after) may = inl (may, refl)
+wants-first setting before fates.Finishes may = (may, refl)
+wants-first setting before (fates.Turns after thens.Back) may = (may, refl)
+wants-first setting before (fates.Turns after thens.Restart) may = inl (may, refl)
+wants-first setting before (fates.Turned after thens.Back) may = (may, refl)
+wants-first setting before (fates.Turned after thens.Restart) may = inl (may, refl)
 
 module _ (setting : Setting) (old : Progress) (same : pending_verdict setting old ≡ pending_verdict setting (settled_at old)) where
   -- what a commit of the batch does a commit of what is pending does
@@ -76,10 +78,11 @@ module _ (setting : Setting) (old : Progress) (same : pending_verdict setting ol
   judged-settled Does effects new judged = subst (λ reason. Judged Does setting (settled_at old) reason effects new) (sym same) judged
 
   pub step-settled : (fate : Fate) (effects : List Effect) (new : Progress) → HasEffects setting (settled_at old) (commit_act fate) effects new → HasEffects setting old (commit_act fate) effects new
-  step-settled fates.ToTheEnd effects new step = judged-settled Commits effects new step
-  step-settled (fates.BackAfter most) effects new step = judged-settled (Tries most) effects new step
-  step-settled (fates.CrashAfter after) effects new step = judged-settled (Crashes after) effects new step
-  step-settled (fates.RestartedAfter after) effects new step = judged-settled (Crashes after) effects new step
+  step-settled fates.Finishes effects new step = judged-settled Commits effects new step
+  step-settled (fates.Turns after thens.Back) effects new step = judged-settled (Tries after) effects new step
+  step-settled (fates.Turns after thens.Restart) effects new step = judged-settled (Crashes after) effects new step
+  step-settled (fates.Turned after thens.Back) effects new step = judged-settled (Tries after) effects new step
+  step-settled (fates.Turned after thens.Restart) effects new step = judged-settled (Crashes after) effects new step
 
   -- and where it is cut
   pub cut-settled : (fate : Fate) (effects : List Effect) (due : Effect) → IsCutStep setting (settled_at old) (commit_act fate) effects due → IsCutStep setting old (commit_act fate) effects due
@@ -96,9 +99,10 @@ module _ (setting : Setting) (old : Progress) (same : pending_verdict setting ol
 
   -- and where it wants memory
   pub wants-settled : (fate : Fate) (effects : List Effect) → IsAsked old.asked → TakesMemory setting (settled_at old) (commit_act fate) effects → TakesMemory setting old (commit_act fate) effects
-  wants-settled fates.ToTheEnd effects is takes = (may-settle setting old old.asked is, takes.1)
-  wants-settled (fates.BackAfter most) effects is takes = (may-settle setting old old.asked is, takes.1)
-  wants-settled (fates.CrashAfter after) effects is (inl takes) = inl (may-settle setting old old.asked is, takes.1)
-  wants-settled (fates.CrashAfter after) effects is (inr stops) = inr (same ∙ stops.0, stops.1)
-  wants-settled (fates.RestartedAfter after) effects is (inl takes) = inl (may-settle setting old old.asked is, takes.1)
-  wants-settled (fates.RestartedAfter after) effects is (inr stops) = inr (same ∙ stops.0, stops.1)
+  wants-settled fates.Finishes effects is takes = (may-settle setting old old.asked is, takes.1)
+  wants-settled (fates.Turns after thens.Back) effects is takes = (may-settle setting old old.asked is, takes.1)
+  wants-settled (fates.Turns after thens.Restart) effects is (inl takes) = inl (may-settle setting old old.asked is, takes.1)
+  wants-settled (fates.Turns after thens.Restart) effects is (inr stops) = inr (same ∙ stops.0, stops.1)
+  wants-settled (fates.Turned after thens.Back) effects is takes = (may-settle setting old old.asked is, takes.1)
+  wants-settled (fates.Turned after thens.Restart) effects is (inl takes) = inl (may-settle setting old old.asked is, takes.1)
+  wants-settled (fates.Turned after thens.Restart) effects is (inr stops) = inr (same ∙ stops.0, stops.1)

@@ -1,8 +1,10 @@
 -- An unfinished commit whose manager is the first, as a course to its end.
-use Rattle.std.proofs.Common.{◌≡◌, ℕ, ◌+◌, ◌*◌, ◌≤◌, inl, inr, Bool, true, false, List, [], ◌∷◌, ◌++◌, Some, length, refl, sym, ap, ◌∙◌, subst}
+use Rattle.std.proofs.Common.{◌≡◌, ℕ, ◌+◌, ◌*◌, ◌<◌, ◌≤◌, inl, inr, Bool, true, false, List, [], ◌∷◌, ◌++◌, length, arith, refl, sym, ap, ◌∙◌, subst}
 use Rattle.std.specs.List.{AllByRecursion}
 use Rattle.rule_store.specs.Verdict.{Verdict}
+use Rattle.tcam_device.specs.declared.Action.{Action}
 use Rattle.tcam_device.specs.Flight.{writes_in}
+use Rattle.commit_writes.specs.Actions.{back_from, up_to_writes}
 use Rattle.tcam_device.specs.State.{IsInUse, state_after, on_device}
 use Rattle.tcam_device.proofs.Spans.{state_after-append}
 use Rattle.tcam_device.proofs.Wider.{state_after-on_device}
@@ -10,16 +12,18 @@ use Rattle.commit_writes.proofs.WritesIn.{writes_in-append}
 use Rattle.batch_order.specs.Managed.{Managed}
 use Rattle.replay.specs.declared.fate.Fate.{Fate}
 use Rattle.replay.specs.declared.fate.Fate.TheVariants as fates
+use Rattle.replay.specs.declared.fate.Then.TheVariants as thens
+use Rattle.replay.specs.declared.Act.TheVariants.{Trial}
 use Rattle.replay.specs.Effects.{Setting, Effect, Prints}
-use Rattle.replay.specs.Run.{Progress, Commits, Returns, Tries, Crashes, Judged, HasEffects, actions_back, carried, carried_so_far}
+use Rattle.replay.specs.Run.{Progress, Commits, Tries, Crashes, Judged, Settles, HasEffects, carried, carried_so_far}
 use Rattle.replay.specs.Text.{aborted_line}
-use Rattle.replay.specs.Fates.{IsFirst, commit_act, crash_of, most_of}
+use Rattle.replay.specs.Fates.{IsFirst, commit_act, is_taken_back, turn_of}
 use Rattle.replay.specs.Running.{Running, IsRun, IsHalfway, setting_of, progress_of}
 use Rattle.replay.proofs.course.Course.{Course, Ending, cuts-by_step}
-use Rattle.replay.proofs.course.Returning.{IsWithin, back-on_device}
-use Rattle.replay.proofs.between.Runs.{commits-with, returns-with}
+use Rattle.replay.proofs.course.Returning.{IsWithin, back-on_device, ends-both, number-both}
+use Rattle.replay.proofs.between.Runs.{commits-with, returns-with, run_returned}
 use Rattle.replay.proofs.between.Settled.{judged-plain}
-use Rattle.replay.proofs.between.Halfway.{run_begun, run_ended, ended_by, line, line_by, is_back, back-ends, back-more, back-number, back-parts, begun-holds, begun-is, begun-in_use, held_begun, setting-begun, whole-back, whole-forward, whole-in_use, whole_actions}
+use Rattle.replay.proofs.between.Halfway.{run_begun, run_ended, ended_by, line, line_by, is_back, back-more, back-number, back-parts, begun-holds, begun-is, begun-in_use, begun-size, held_begun, setting-begun, whole-back, whole-forward, whole-in_use, whole_actions}
 
 in-front : {A : Type 0} (P : A → Type 0) (a b : List A) → AllByRecursion P (a ++ b) → AllByRecursion P a
 in-front P [] b all = tt
@@ -28,13 +32,6 @@ in-front P (x ∷ a) b all = (all.0, in-front P a b all.1)
 in-back : {A : Type 0} (P : A → Type 0) (a b : List A) → AllByRecursion P (a ++ b) → AllByRecursion P b
 in-back P [] b all = all
 in-back P (x ∷ a) b all = in-back P a b all.1
-
--- only a trial is taken back
-returns-fate : (fate : Fate) (limit : ℕ) → most_of fate ≡ Some limit → fate ≡ fates.BackAfter limit
-returns-fate fates.ToTheEnd limit is = absurd (cc)
-returns-fate (fates.BackAfter most) limit is = let same : most ≡ limit = cc in ap fates.BackAfter same
-returns-fate (fates.CrashAfter after) limit is = absurd (cc)
-returns-fate (fates.RestartedAfter after) limit is = absurd (cc)
 
 module _ (slots : ℕ) (run : Running) (half : IsHalfway run) (is : IsRun run) (inside : run.manager.slots ≤ slots) where
   -- where the commit began
@@ -66,51 +63,60 @@ module _ (slots : ℕ) (run : Running) (half : IsHalfway run) (is : IsRun run) (
   abbrev begun_setting : Setting
   begun_setting = setting_of (run_begun run half)
 
-  -- with these effects it does what the whole commit does, where it has no more writes than come before a crash
-  module _ (few : IsWithin (crash_of run.fate) (length (begun-holds run half).made)) where
-    module _ (effects : List Effect) (all : effects ≡ carried begun_setting began (whole_actions run half) ++ Prints (line run half) ∷ []) where
-      forward-step : (fate : Fate) → IsFirst fate → (progress : Progress) (commits : Commits begun_setting began effects progress) → IsWithin (most_of fate) (length commits.made) → IsWithin (crash_of fate) (length commits.made)
-          → HasEffects begun_setting began (commit_act fate) effects progress
-      forward-step fates.ToTheEnd first progress commits most crash =
-          judged-plain Commits begun_setting began effects progress half.plain (subst (λ (verdict : Verdict). Judged Commits begun_setting began verdict effects progress) (sym half.accepted) commits)
-      forward-step (fates.BackAfter limit) first progress commits most crash =
-          judged-plain (Tries limit) begun_setting began effects progress half.plain (subst (λ (verdict : Verdict). Judged (Tries limit) begun_setting began verdict effects progress) (sym half.accepted) (inl (commits, most)))
-      forward-step (fates.CrashAfter after) first progress commits most crash =
-          judged-plain (Crashes after) begun_setting began effects progress half.plain (subst (λ (verdict : Verdict). Judged (Crashes after) begun_setting began verdict effects progress) (sym half.accepted) (inl (commits, crash)))
-      forward-step (fates.RestartedAfter after) first progress commits most crash = absurd first
+  -- what an accepted one does is what is done by its verdict
+  judged : (Does : Setting → Progress → List Effect → Progress → Type 0) (effects : List Effect) (progress : Progress) → Does begun_setting began effects progress → Settles Does begun_setting began effects progress
+  judged Does effects progress does =
+      judged-plain Does begun_setting began effects progress half.plain (subst (λ (verdict : Verdict). Judged Does begun_setting began verdict effects progress) (sym half.accepted) does)
 
-      back-step : (limit : ℕ) (progress : Progress) → Returns begun_setting began limit effects progress → HasEffects begun_setting began (commit_act (fates.BackAfter limit)) effects progress
-      back-step limit progress returns =
-          judged-plain (Tries limit) begun_setting began effects progress half.plain (subst (λ (verdict : Verdict). Judged (Tries limit) begun_setting began verdict effects progress) (sym half.accepted) (inr returns))
+  -- taken back behind so many writes it returns
+  module _ (after : ℕ) (more : after < length (begun-holds run half).made) where
+    abbrev pub course_back : List Action
+    course_back = back_from half.begun.state (up_to_writes after (held_begun run half).actions)
 
-      whole-step : (back : Bool) → is_back run half ≡ back → HasEffects begun_setting began (commit_act run.fate) effects (progress_of slots (ended_by run half back))
-      whole-step false on =
-          let whole = whole-forward run half on in
-          let same : effects ≡ carried begun_setting began (held_begun run half).actions ++ Prints (line_by run half false) ∷ [] =
-          all ∙ ap (λ actions. carried begun_setting began actions ++ Prints (line run half) ∷ []) whole.0
-          ∙ ap (λ back. carried begun_setting began (held_begun run half).actions ++ Prints (line_by run half back) ∷ []) on in
-          forward-step run.fate half.first (progress_of slots (ended_by run half false))
-          (commits-with (run_begun run half) half.holds.0 (begun-is run half is) half.holds.1 slots within_begun effects same) whole.2 few
-      whole-step true back =
-          let parts = back-parts run half back in
-          let made = (begun-holds run half).made in
-          let size : length half.begun.state.slots ≡ half.begun.slots = (begun-is run half is).size in
-          let within : AllByRecursion (IsInUse half.begun.slots) (writes_in (held_begun run half).actions) = begun-in_use run half in
-          let there : whole_actions run half ≡ actions_back begun_setting began parts.limit made =
-          whole-back run half back ∙ sym (back-on_device slots half.begun.slots parts.limit half.begun.state (held_begun run half).actions size within) in
-          let same : effects ≡ carried begun_setting began (actions_back begun_setting began parts.limit made) ++ Prints (aborted_line (run.commits + 1) (2 * parts.limit)) ∷ [] =
-          all ∙ ap (λ actions. carried begun_setting began actions ++ Prints (line run half) ∷ []) there
-          ∙ ap (λ back. carried begun_setting began (actions_back begun_setting began parts.limit made) ++ Prints (line_by run half back) ∷ []) back
-          ∙ ap (λ n. carried begun_setting began (actions_back begun_setting began parts.limit made) ++ Prints (aborted_line (run.commits + 1) n) ∷ []) (back-number run half back) in
-          subst (λ fate. HasEffects begun_setting began (commit_act fate) effects (progress_of slots (ended_by run half true))) (sym (returns-fate run.fate parts.limit parts.most_is))
-          (back-step parts.limit (progress_of slots (ended_by run half true))
-          (returns-with (run_begun run half) half.holds.0 (begun-is run half is) half.holds.1 slots within_begun parts.limit (writes_in (whole_actions run half)) (back-more run half back) (back-ends run half back) (back-number run half back) effects same))
+    abbrev back_line : Effect
+    back_line = Prints (aborted_line (run.commits + 1) (2 * after))
 
-    -- with all that is left the commit is carried out
+    pub back-step : HasEffects (setting_of run) began (Trial after) (carried (setting_of run) began course_back ++ back_line ∷ []) (progress_of slots (run_returned (run_begun run half) (writes_in course_back)))
+    back-step =
+        let progress = progress_of slots (run_returned (run_begun run half) (writes_in course_back)) in
+        let begins = begun-is run half is in
+        let front = up_to_writes after (held_begun run half).actions in
+        let enough : after ≤ length (writes_in (held_begun run half).actions) = let size = begun-size run half in omega arith in
+        subst (λ setting. HasEffects setting began (Trial after) (carried setting began course_back ++ back_line ∷ []) progress) (sym (setting-begun run half))
+        (judged (Tries after) (carried begun_setting began course_back ++ back_line ∷ []) progress
+        (inr (returns-with (run_begun run half) half.holds.0 begins half.holds.1 slots within_begun after (writes_in course_back) more
+        (ends-both half.begun.state front) (number-both after half.begun.state (held_begun run half).actions enough) (carried begun_setting began course_back ++ back_line ∷ [])
+        (ap (λ actions. carried begun_setting began actions ++ back_line ∷ [])
+        (sym (back-on_device slots half.begun.slots after half.begun.state (held_begun run half).actions begins.size (begun-in_use run half)))))))
+
+  -- with all that is left the commit is carried out, where it has no more writes than come before a turn
+  module _ (few : IsWithin (turn_of run.fate) (length (begun-holds run half).made)) where
+    forward-step : (fate : Fate) (effects : List Effect) (progress : Progress) → IsFirst fate (length (begun-holds run half).made) → is_taken_back fate ≡ false
+        → (commits : Commits begun_setting began effects progress) → IsWithin (turn_of fate) (length commits.made) → HasEffects begun_setting began (commit_act fate) effects progress
+    forward-step fates.Finishes effects progress first on commits within = judged Commits effects progress commits
+    forward-step (fates.Turns after thens.Back) effects progress first on commits within = judged (Tries after) effects progress (inl (commits, within))
+    forward-step (fates.Turns after thens.Restart) effects progress first on commits within = judged (Crashes after) effects progress (inl (commits, within))
+    forward-step (fates.Turned after thens.Back) effects progress first on commits within = absurd (cc)
+    forward-step (fates.Turned after thens.Restart) effects progress first on commits within = absurd first
+
+    step-by : (back : Bool) → is_back run half ≡ back
+        → HasEffects (setting_of run) began (commit_act run.fate) (carried (setting_of run) began (whole_actions run half) ++ Prints (line_by run half back) ∷ []) (progress_of slots (ended_by run half back))
+    step-by false on =
+        let progress = progress_of slots (ended_by run half false) in
+        let effects = carried begun_setting began (held_begun run half).actions ++ Prints (line_by run half false) ∷ [] in
+        subst (λ setting. HasEffects setting began (commit_act run.fate) (carried setting began (whole_actions run half) ++ Prints (line_by run half false) ∷ []) progress) (sym (setting-begun run half))
+        (subst (λ actions. HasEffects begun_setting began (commit_act run.fate) (carried begun_setting began actions ++ Prints (line_by run half false) ∷ []) progress) (sym (whole-forward run half on).0)
+        (forward-step run.fate effects progress half.first on (commits-with (run_begun run half) half.holds.0 (begun-is run half is) half.holds.1 slots within_begun effects refl) few))
+    step-by true back =
+        let parts = back-parts run half back in
+        let returned : List Action → Progress = λ actions. progress_of slots (run_returned (run_begun run half) (writes_in actions)) in
+        subst (λ fate. HasEffects (setting_of run) began (commit_act fate) (carried (setting_of run) began (whole_actions run half) ++ Prints (line_by run half true) ∷ []) (returned (whole_actions run half))) (sym parts.1)
+        (subst (λ n. HasEffects (setting_of run) began (Trial parts.0) (carried (setting_of run) began (whole_actions run half) ++ Prints (aborted_line (run.commits + 1) n) ∷ []) (returned (whole_actions run half))) (sym (back-number run half back))
+        (subst (λ actions. HasEffects (setting_of run) began (Trial parts.0) (carried (setting_of run) began actions ++ Prints (aborted_line (run.commits + 1) (2 * parts.0)) ∷ []) (returned actions)) (sym (whole-back run half back))
+        (back-step parts.0 (back-more run half back))))
+
     pub all-step : HasEffects (setting_of run) began (commit_act run.fate) (carried (setting_of run) began (whole_actions run half) ++ Prints (line run half) ∷ []) (progress_of slots (run_ended run half))
-    all-step =
-        subst (λ setting. HasEffects setting began (commit_act run.fate) (carried setting began (whole_actions run half) ++ Prints (line run half) ∷ []) (progress_of slots (run_ended run half))) (sym (setting-begun run half))
-        (whole-step (carried begun_setting began (whole_actions run half) ++ Prints (line run half) ∷ []) refl (is_back run half) refl)
+    all-step = step-by (is_back run half) refl
 
     abbrev pub course-half : Course slots began so_far run
     course-half = record {

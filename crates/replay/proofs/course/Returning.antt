@@ -1,8 +1,7 @@
 -- A trial that is taken back: its first writes, and those that undo them.
-use Rattle.std.proofs.Common.{◌≡◌, ℕ, zero, suc, ◌+◌, ◌-◌, ◌*◌, ◌<◌, ◌≤◌, true, false, List, [], ◌∷◌, ◌++◌, length, length-append, map, take, Option, Some, None, refl, sym, ap, ◌∙◌, subst, arith}
+use Rattle.std.proofs.Common.{◌≡◌, ℕ, zero, suc, ◌+◌, ◌-◌, ◌*◌, ◌≤◌, List, [], ◌∷◌, ◌++◌, length, length-append, map, take, Option, Some, None, refl, sym, ap, ◌∙◌, subst, arith}
 use Rattle.std.specs.List.{AllByRecursion}
-use Rattle.std.proofs.lemmas.List.{append-nil, length-take-le}
-use Rattle.std.proofs.lemmas.Bool.{ltb-true, ltb-false}
+use Rattle.std.proofs.lemmas.List.{length-take-le}
 use Rattle.rule_model.specs.declared.words.Entry.{Entry}
 use Rattle.rule_model.specs.declared.Field.TheVariants.{Src, Dst}
 use Rattle.tcam_device.specs.declared.Write.{Write}
@@ -17,9 +16,6 @@ use Rattle.commit_writes.specs.Actions.{back_from, up_to_writes}
 use Rattle.commit_writes.specs.Undo.{restoring, undo_writes}
 use Rattle.commit_writes.proofs.WritesIn.{writes_of_map, writes_in-append}
 use Rattle.commit_writes.proofs.Undone.{length-undo_writes, undo_ends}
-use Rattle.batch_order.specs.Managed.Way.{On}
-use Rattle.replay.specs.Running.{left_in, trial_rest, trial_left, turns_back}
-use Rattle.replay.proofs.making.Acting.{trial-goes, trial-stays}
 
 -- the writes up to so many of them
 pub writes-up_to : (most : ℕ) (actions : List Action) → writes_in (up_to_writes most actions) ≡ take most (writes_in actions)
@@ -29,26 +25,23 @@ writes-up_to (suc more) (Written write ∷ actions) = ap (λ writes. write ∷ w
 writes-up_to (suc more) (Drained ∷ actions) = writes-up_to (suc more) actions
 
 -- both ways
-pub writes-both : (most : ℕ) (state : State) (actions : List Action)
-    → writes_in (trial_left most state actions []) ≡ writes_in (up_to_writes most actions) ++ undo_writes state (writes_in (up_to_writes most actions))
-writes-both most state actions =
-    let front = up_to_writes most actions in
-    writes_in-append front (map Written (undo_writes state (writes_in front) ++ []))
-    ∙ ap (λ writes. writes_in front ++ writes) (writes_of_map (undo_writes state (writes_in front) ++ []) ∙ append-nil (undo_writes state (writes_in front)))
+writes-both : (state : State) (front : List Action) → writes_in (back_from state front) ≡ writes_in front ++ undo_writes state (writes_in front)
+writes-both state front =
+    writes_in-append front (map Written (undo_writes state (writes_in front))) ∙ ap (λ writes. writes_in front ++ writes) (writes_of_map (undo_writes state (writes_in front)))
 
 -- they are twice as many
-pub number-both : (most : ℕ) (state : State) (actions : List Action) → most ≤ length (writes_in actions) → length (writes_in (trial_left most state actions [])) ≡ 2 * most
+pub number-both : (most : ℕ) (state : State) (actions : List Action) → most ≤ length (writes_in actions) → length (writes_in (back_from state (up_to_writes most actions))) ≡ 2 * most
 number-both most state actions enough =
     let front = up_to_writes most actions in
     let one : length (writes_in front) ≡ most = ap length (writes-up_to most actions) ∙ length-take-le most (writes_in actions) enough in
     let other = length-undo_writes state (writes_in front) in
-    let both : length (writes_in (trial_left most state actions [])) ≡ length (writes_in front) + length (undo_writes state (writes_in front)) =
-    ap length (writes-both most state actions) ∙ length-append (writes_in front) (undo_writes state (writes_in front)) in
+    let both : length (writes_in (back_from state front)) ≡ length (writes_in front) + length (undo_writes state (writes_in front)) =
+    ap length (writes-both state front) ∙ length-append (writes_in front) (undo_writes state (writes_in front)) in
     omega arith
 
 -- and they lead back to where they began
-pub ends-both : (most : ℕ) (state : State) (actions : List Action) → state_after state (writes_in (trial_left most state actions [])) ≡ state
-ends-both most state actions = ap (state_after state) (writes-both most state actions) ∙ undo_ends state (writes_in (up_to_writes most actions))
+pub ends-both : (state : State) (front : List Action) → state_after state (writes_in (back_from state front)) ≡ state
+ends-both state front = ap (state_after state) (writes-both state front) ∙ undo_ends state (writes_in front)
 
 all-append : {A : Type 0} (P : A → Type 0) (a b : List A) → AllByRecursion P a → AllByRecursion P b → AllByRecursion P (a ++ b)
 all-append P [] b all others = others
@@ -68,11 +61,11 @@ front-in_use : (size most : ℕ) (actions : List Action) → AllByRecursion (IsI
 front-in_use size most actions inside = subst (AllByRecursion (IsInUse size)) (sym (writes-up_to most actions)) (all_take (IsInUse size) most (writes_in actions) inside)
 
 -- each is to a slot in use
-pub both-in_use : (size most : ℕ) (state : State) (actions : List Action) → AllByRecursion (IsInUse size) (writes_in actions) → AllByRecursion (IsInUse size) (writes_in (trial_left most state actions []))
+pub both-in_use : (size most : ℕ) (state : State) (actions : List Action) → AllByRecursion (IsInUse size) (writes_in actions) → AllByRecursion (IsInUse size) (writes_in (back_from state (up_to_writes most actions)))
 both-in_use size most state actions inside =
     let front = writes_in (up_to_writes most actions) in
     let there = front-in_use size most actions inside in
-    subst (AllByRecursion (IsInUse size)) (sym (writes-both most state actions)) (all-append (IsInUse size) front (undo_writes state front) there (undo-in_use size state front there))
+    subst (AllByRecursion (IsInUse size)) (sym (writes-both state (up_to_writes most actions))) (all-append (IsInUse size) front (undo_writes state front) there (undo-in_use size state front there))
 
 -- on a wider device the same writes undo them
 restoring-padded : (more : ℕ) (state : State) (write : Write) → restoring (padded more state) write ≡ restoring state write
@@ -90,41 +83,13 @@ undo-padded more state (write ∷ writes) inside =
 
 -- so the actions there and back are those of the return that begins at the device
 pub back-on_device : (slots size most : ℕ) (state : State) (actions : List Action) → length state.slots ≡ size → AllByRecursion (IsInUse size) (writes_in actions)
-    → back_from (on_device slots state) (up_to_writes most actions) ≡ trial_left most state actions []
+    → back_from (on_device slots state) (up_to_writes most actions) ≡ back_from state (up_to_writes most actions)
 back-on_device slots size most state actions size_is inside =
     let front = up_to_writes most actions in
     let within : AllByRecursion (IsInUse (length state.slots)) (writes_in front) = subst (λ n. AllByRecursion (IsInUse n) (writes_in front)) (sym size_is) (front-in_use size most actions inside) in
-    ap (λ undo. front ++ map Written undo) (undo-padded (slots - length state.slots) state (writes_in front) within ∙ sym (append-nil (undo_writes state (writes_in front))))
+    ap (λ undo. front ++ map Written undo) (undo-padded (slots - length state.slots) state (writes_in front) within)
 
--- ---- which commit is taken back
-
--- it has no more writes than it may
+-- it has no more writes than come before its turn
 abbrev pub IsWithin : Option ℕ → ℕ → Type 0
 IsWithin None writes = Unit {0}
 IsWithin (Some most) writes = writes ≤ most
-
--- one that isn't makes all of its actions
-pub stays-forward : (most : Option ℕ) (state : State) (actions : List Action) (undo : List Write) → turns_back (On undo) (trial_rest most 0) actions ≡ false
-    → (left_in (On undo) (trial_rest most 0) state actions ≡ actions) × IsWithin most (length (writes_in actions))
-stays-forward None state actions undo on = (refl, tt)
-stays-forward (Some most) state actions undo on =
-    (trial-stays (most - 0) state actions undo on, (let above = ltb-false (most - 0) (length (writes_in actions)) on in omega arith))
-
--- one that is makes the first ones, and undoes them
-pub record IsBack (most : Option ℕ) (state : State) (actions left : List Action) (undo : List Write) : Type 0 where
-  pub limit : ℕ
-  pub most_is : most ≡ Some limit
-  pub more : limit < length (writes_in actions)
-  pub left_is : left ≡ trial_left limit state actions undo
-
-pub goes-back : (most : Option ℕ) (state : State) (actions : List Action) (undo : List Write) → turns_back (On undo) (trial_rest most 0) actions ≡ true
-    → IsBack most state actions (left_in (On undo) (trial_rest most 0) state actions) undo
-goes-back None state actions undo back = absurd (cc)
-goes-back (Some limit) state actions undo back =
-    let less = ltb-true (limit - 0) (length (writes_in actions)) back in
-    let same : limit - 0 ≡ limit = omega arith in record {
-      limit = limit;
-      most_is = refl;
-      more = omega arith;
-      left_is = trial-goes (limit - 0) state actions undo back ∙ ap (λ more. trial_left more state actions undo) same;
-    }

@@ -16,7 +16,7 @@ use Rattle.tcam_device.specs.Flight.{Flight, writes_in}
 use Rattle.tcam_device.specs.Insertion.{table_writes}
 use Rattle.tcam_device.specs.State.{State, replay, state_after, on_device}
 use Rattle.tcam_device.proofs.Wider.{slots-after}
-use Rattle.commit_writes.specs.Actions.{commit_actions, have_bits, up_to_writes, with_drain}
+use Rattle.commit_writes.specs.Actions.{commit_actions, have_bits, with_drain}
 use Rattle.commit_writes.specs.Bits.{FieldBits, bits_with, new_bits}
 use Rattle.commit_writes.specs.InFlight.{ArePartOf, AreCurrent}
 use Rattle.commit_writes.specs.Routes.{IsRoute}
@@ -32,26 +32,26 @@ use Rattle.batch_order.specs.declared.Placement.{Placement}
 use Rattle.batch_order.specs.declared.restarting.fault.RestartFault.{RestartFault}
 use Rattle.batch_order.specs.declared.restarting.fault.RestartFault.TheVariants as restart_faults
 use Rattle.batch_order.specs.Managed.{CanRestart, HasBlankTables, HeldCommit, Managed, fresh, live_now}
-use Rattle.batch_order.specs.Steps.{is_back}
 use Rattle.batch_order.specs.Restart.{AnswersRestart, ArePartsOf, Resumes, bits_in, has_drained, rest_of}
 use Rattle.batch_order.specs.Turning.{IsCurrentRight, IsHeldRight, has_drain}
 use Rattle.replay.specs.declared.Act.TheVariants.{Crash}
 use Rattle.replay.specs.declared.fate.Fate.TheVariants as fates
+use Rattle.replay.specs.declared.fate.Then.TheVariants as thens
 use Rattle.replay.specs.Effects.{Effect, waiting_after}
 use Rattle.replay.specs.Run.{Progress, carried_so_far}
 use Rattle.replay.specs.Fates.{commit_act}
-use Rattle.replay.specs.Running.{Running, IsHalfway, IsOnward, IsRun, MakesSome, first_actions, actions_left, progress_of, routes_of, setting_of}
+use Rattle.replay.specs.Running.{Running, IsHalfway, IsOnward, IsRun, course_of, first_actions, progress_of, routes_of, setting_of}
 use Rattle.replay.specs.Unfinished.{IsUnfinished, StandsHalfway, StandsOnward, TakesAtCrash}
 use Rattle.replay.specs.Carried.{IsAt}
-use Rattle.replay.specs.Crashing.{IsAtCrash, IsGoneOnWith, IsLost, after_loss}
-use Rattle.replay.proofs.making.Acting.{some-held}
-use Rattle.replay.proofs.between.Halfway.{begun-is, held-same, setting-begun, whole-forward}
+use Rattle.replay.specs.Crashing.{IsAtTurn, IsLost, IsTurned, after_loss}
+use Rattle.replay.proofs.making.Acting.{one, some-held}
+use Rattle.replay.proofs.making.Making.{makes-none}
+use Rattle.replay.proofs.between.Halfway.{begun-is, held-forward, held_begun, setting-begun, way-same, whole-forward}
 use Rattle.replay.proofs.crash.Onward.{GoesBy, goes-by}
 use Rattle.replay.proofs.course.Resuming.{began, so_far, state-now, within_begun}
 use Rattle.replay.proofs.course.Returning.{writes-up_to}
 use Rattle.replay.proofs.between.Runs.{lost-run}
-use Rattle.replay.proofs.crash.ToCrash.{IsToStop, accepted-run, crashing, first-made, left_first, more-made, one-turned, stops-now, to-stop}
-use Rattle.replay.proofs.making.Upto.{whole-left}
+use Rattle.replay.proofs.crash.ToTurn.{IsToStop, accepted-run, made-first, more-made, none-first, stops-now, to-stop, turning}
 
 -- ---- up to its drain a commit writes words of the tables alone
 
@@ -79,23 +79,9 @@ both-true true true both = (refl, refl)
 both-true true false both = absurd (cc)
 both-true false b both = absurd (cc)
 
--- a commit of which nothing is made yet
-abbrev pub none-made : (after : ℕ) (manager : Managed) (held : HeldCommit) → manager.held ≡ Some held → MakesSome None after manager manager
-none-made after manager held is = record {
-  held = held;
-  made = [];
-  left = actions_left None manager.state held;
-  held_is = is;
-  whole = refl;
-  one = held;
-  now_is = ap (λ one. record manager { held = one }) is;
-  left_is = refl;
-  same = record { prepared = refl; counts = refl; rules = refl; during = refl; bits = refl; back = refl };
-}
-
-module _ (slots after : ℕ) (base : Running) (half : IsHalfway (crashing after base)) (is : IsRun (crashing after base)) (inside : base.manager.slots ≤ slots) (more : after < length half.holds.1.made) (told : base.told ≡ after) where
+module _ (slots after : ℕ) (base : Running) (half : IsHalfway (turning after thens.Restart base)) (is : IsRun (turning after thens.Restart base)) (inside : base.manager.slots ≤ slots) (more : after < length half.holds.1.made) (told : base.told ≡ after) where
   abbrev run : Running
-  run = crashing after base
+  run = turning after thens.Restart base
 
   abbrev made : List Write
   made = half.holds.1.made
@@ -116,45 +102,26 @@ module _ (slots after : ℕ) (base : Running) (half : IsHalfway (crashing after 
   abbrev stands : Bool
   stands = list_any (stands_in at_crash.slots) (inserted_pieces half.begun.mode during half.begun.rules run.pending)
 
-  abbrev one : HeldCommit
-  one = half.some.one
-
-  made-size : length (writes_in half.some.made) ≡ after
-  made-size = sym half.told ∙ told
+  abbrev here : HeldCommit
+  here = one (course_of run.fate half.begun (held_begun run half)) run.manager half.some
 
   -- the actions that were made are those up to the crash
-  pub made-first : half.some.made ≡ first_actions run half.begun made after
-  made-first =
-      let size = made-size in
-      let none : after - length (writes_in half.some.made) ≡ 0 = omega arith in
-      sym (append-nil half.some.made) ∙ ap (λ n. half.some.made ++ up_to_writes n half.some.left) (sym none) ∙ first-made slots after base half is inside more
-
-  -- and none of these is left
-  pub none-first : left_first slots after base half is inside more ≡ []
-  none-first =
-      let size = made-size in
-      let none : after - length (writes_in half.some.made) ≡ 0 = omega arith in
-      ap (λ n. up_to_writes n half.some.left) none
+  pub first : half.some.made ≡ first_actions run half.begun made after
+  first = made-first slots after thens.Restart base half is inside more told
 
   writes-first : writes_in half.some.made ≡ take after made
   writes-first =
-      ap writes_in made-first ∙ writes-up_to after (commit_actions half.begun.mode bits half.begun.rules run.pending made)
+      ap writes_in first ∙ writes-up_to after (commit_actions half.begun.mode bits half.begun.rules run.pending made)
       ∙ ap (take after) (writes_of_commit have made)
 
   crash-state : on_device slots run.manager.state ≡ at_crash
   crash-state = state-now slots run half is inside ∙ ap (state_after (on_device slots half.begun.state)) writes-first
 
-  held-one : run.manager.held ≡ Some one
-  held-one = some-held None 0 half.begun run.manager half.some
+  held-one : run.manager.held ≡ Some here
+  held-one = some-held (course_of run.fate half.begun (held_begun run half)) run.manager half.some
 
-  turned-none : is_back one.way ≡ false
-  turned-none = one-turned after base half
-
-  one-left : one.actions ≡ half.some.left
-  one-left = sym (whole-left run.manager.state one) ∙ half.some.left_is
-
-  one-during : one.during ≡ during
-  one-during = half.some.same.during ∙ ap (λ (held : HeldCommit). held.during) (held-same run half)
+  here-during : here.during ≡ during
+  here-during = ap (λ (held : HeldCommit). held.during) (held-forward run half refl)
 
   now-bits : run.manager.bits ≡ bits
   now-bits = ap (λ (manager : Managed). manager.bits) half.some.now_is
@@ -172,23 +139,23 @@ module _ (slots after : ℕ) (base : Running) (half : IsHalfway (crashing after 
       sym (ap (λ due. with_drain due made) some) ∙ sym (whole-forward run half refl).0 in
       let few = before-drain (take count made) (drop count made) half.some.made half.some.left parts drains in
       let size = length-take count made in
-      let number = made-size in
+      let number : length (writes_in half.some.made) ≡ after = sym half.told ∙ told in
       can-restart.unplaced after (omega (arith, few, size, number))
 
   -- so the ranges that are live for the second manager are so for the first
-  live-part : IsCurrentRight run.manager.bits one → (drained : Bool) → has_drained half.begun.mode bits half.begun.rules run.pending at_crash ≡ drained → ArePartOf (elim drained [ true ↦ during | false ↦ bits ]) one.current
-  live-part right false none = subst (λ ranges. ArePartOf ranges one.current) now-bits right.least
-  live-part right true found = by-drain (has_drain one.actions) refl
+  live-part : IsCurrentRight run.manager.bits here → (drained : Bool) → has_drained half.begun.mode bits half.begun.rules run.pending at_crash ≡ drained → ArePartOf (elim drained [ true ↦ during | false ↦ bits ]) here.current
+  live-part right false none = subst (λ ranges. ArePartOf ranges here.current) now-bits right.least
+  live-part right true found = by-drain (has_drain here.actions) refl
     where
-      by-drain : (drains : Bool) → has_drain one.actions ≡ drains → ArePartOf during one.current
-      by-drain false none = subst (λ ranges. ArePartOf ranges one.current) one-during (right.drained turned-none none)
+      by-drain : (drains : Bool) → has_drain here.actions ≡ drains → ArePartOf during here.current
+      by-drain false none = subst (λ ranges. ArePartOf ranges here.current) here-during (right.drained (way-same run half) none)
       by-drain true drains =
           absurd (let both = both-true have stands found in
-          let none = undrained both.0 (ap has_drain (sym one-left) ∙ drains) in
+          let none = undrained both.0 drains in
           let bad : true ≡ false = sym both.1 ∙ none in cc)
 
-  right-one : IsHeldRight run.manager → IsCurrentRight run.manager.bits one
-  right-one right = subst (λ held. IfSome held (λ (x : HeldCommit). IsCurrentRight run.manager.bits x)) held-one right
+  right-here : IsHeldRight run.manager → IsCurrentRight run.manager.bits here
+  right-here right = subst (λ held. IfSome held (λ (x : HeldCommit). IsCurrentRight run.manager.bits x)) held-one right
 
   -- by covers no word of a table has a bit
   pub blank-tables : base.manager.mode ≡ Cover → HasBlankTables (on_device slots base.manager.state)
@@ -229,7 +196,7 @@ module _ (slots after : ℕ) (base : Running) (half : IsHalfway (crashing after 
     held_rest = rest_of half.begun.mode bits half.begun.rules run.pending at_crash goes.made goes.counts
 
     abbrev pub over : Running
-    over = record base { manager = restarted; fate = fates.RestartedAfter after }
+    over = record base { manager = restarted; fate = fates.Turned after thens.Restart }
 
     pub held-over : restarted.held ≡ Some held_rest
     held-over = ap (λ (manager : Managed). manager.held) goes.restarted_is
@@ -241,11 +208,11 @@ module _ (slots after : ℕ) (base : Running) (half : IsHalfway (crashing after 
     pub current-over : IsHeldRight base.manager → (flight : Flight) → AreCurrent (live_now base.manager) flight → AreCurrent (live_now restarted) flight
     current-over right flight current =
         let live : live_now restarted ≡ elim (has_drained half.begun.mode bits half.begun.rules run.pending at_crash) [ true ↦ during | false ↦ bits ] = ap (λ (manager : Managed). live_now manager) goes.restarted_is in
-        let now : live_now base.manager ≡ one.current = ap (λ (held : Option HeldCommit). elim held [ None ↦ base.manager.bits | Some x ↦ x.current ]) held-one in
+        let now : live_now base.manager ≡ here.current = ap (λ (held : Option HeldCommit). elim held [ None ↦ base.manager.bits | Some x ↦ x.current ]) held-one in
         are_current_part (live_now restarted) (live_now base.manager) flight
         (subst (λ ranges. ArePartOf ranges (live_now base.manager)) (sym live)
         (subst (ArePartOf (elim (has_drained half.begun.mode bits half.begun.rules run.pending at_crash) [ true ↦ during | false ↦ bits ])) (sym now)
-        (live-part (right-one right) (has_drained half.begun.mode bits half.begun.rules run.pending at_crash) refl)))
+        (live-part (right-here right) (has_drained half.begun.mode bits half.begun.rules run.pending at_crash) refl)))
         current
 
     pub setting-over : setting_of over ≡ setting_of run
@@ -273,9 +240,9 @@ module _ (slots after : ℕ) (base : Running) (half : IsHalfway (crashing after 
       parts_are = are;
       restarted = restarted;
       resumes = resumes;
-      some = none-made after restarted held_rest held-over;
+      some = makes-none restarted held_rest held-over;
       told = (let same : after ≡ after + 0 = omega arith in told ∙ same);
-      waiting = half.waiting ∙ ap (waiting_after run.depth 0) (made-first ∙ sym (append-nil (first_actions run half.begun made after)));
+      waiting = half.waiting ∙ ap (waiting_after run.depth 0) (first ∙ sym (append-nil (first_actions run half.begun made after)));
     }
 
     -- as many slots are in use
@@ -311,60 +278,52 @@ module _ (slots after : ℕ) (base : Running) (half : IsHalfway (crashing after 
       onward = onward-over;
       before_is = before_is;
       front_is = front_is ∙ ap (λ setting. carried_so_far setting before half.some.made) (sym setting-over)
-          ∙ ap (carried_so_far (setting_of over) before) (made-first ∙ sym (append-nil (first_actions run half.begun made after)));
+          ∙ ap (carried_so_far (setting_of over) before) (first ∙ sym (append-nil (first_actions run half.begun made after)));
     }
 
 -- ---- by what a run is
 
--- one that is to crash holds a commit
-held-some : (after : ℕ) (run : Running) → IsRun run → run.fate ≡ fates.CrashAfter after → IsSome run.manager.held
-held-some after run is fate_is = go run.manager.held refl
-  where
-    go : (held : Option HeldCommit) → run.manager.held ≡ held → IsSome held
-    go (Some one) some = refl
-    go None none = absurd (let bad : fates.CrashAfter after ≡ fates.ToTheEnd = sym fate_is ∙ (is.idle none).2 in cc)
-
-pub to-crash : (after : ℕ) (run : Running) → IsRun run → IsAtCrash after run → IsToStop after run
-to-crash after run is at = to-stop after run is (held-some after run is at.fate_is) at.fate_is at.more
+pub to-crash : (after : ℕ) (run : Running) → IsRun run → IsAtTurn after thens.Restart run → IsToStop after thens.Restart run
+to-crash after run is at = to-stop after thens.Restart run is at.held at.fate_is at.more
 
 -- it wants memory to go on, and has had its effects so far
-pub wants-over : (slots after : ℕ) (base : Running) (is : IsRun base) (at : IsAtCrash after base) → base.manager.slots ≤ slots → (before : Progress) (front : List Effect) → IsUnfinished slots before front base
+pub wants-over : (slots after : ℕ) (base : Running) (is : IsRun base) (at : IsAtTurn after thens.Restart base) → base.manager.slots ≤ slots → (before : Progress) (front : List Effect) → IsUnfinished slots before front base
     → TakesAtCrash (setting_of base) before (Crash after) front
 wants-over slots after base is at inside before front (inl stands) =
     let stop = to-crash after base is at in
-    let first : StandsHalfway slots before front (crashing after base) = subst (StandsHalfway slots before front) stop.same stands in
+    let first : StandsHalfway slots before front (turning after thens.Restart base) = subst (StandsHalfway slots before front) stop.same stands in
     let half = first.halfway in
-    let more = more-made after base half at.more in
-    let start : Progress = began slots (crashing after base) half stop.is inside in
-    let so : front ≡ so_far slots (crashing after base) half stop.is inside =
+    let more = more-made after thens.Restart base half at.more in
+    let start : Progress = began slots (turning after thens.Restart base) half stop.is inside in
+    let so : front ≡ so_far slots (turning after thens.Restart base) half stop.is inside =
     first.front_is ∙ ap (λ (progress : Progress). carried_so_far (setting_of base) progress half.some.made) first.before_is in
     subst (λ progress. TakesAtCrash (setting_of base) progress (Crash after) front) (sym first.before_is)
     (subst (TakesAtCrash (setting_of base) start (Crash after)) (sym so)
-    (accepted-run slots after base half stop.is inside more, stops-now slots after base half stop.is inside more (none-first slots after base half stop.is inside more at.told_is)))
+    (accepted-run slots after thens.Restart base half stop.is inside more, stops-now slots after thens.Restart base half stop.is inside more (none-first slots after thens.Restart base half stop.is inside more at.told_is)))
 wants-over slots after base is at inside before front (inr stands) =
-    absurd (let bad : fates.CrashAfter after ≡ fates.RestartedAfter stands.onward.after = sym at.fate_is ∙ stands.onward.fate_is in cc)
+    absurd (let bad : fates.Turns after thens.Restart ≡ fates.Turned stands.onward.after thens.Restart = sym at.fate_is ∙ stands.onward.fate_is in cc)
 
 -- its commit stays unfinished by the other manager
-pub unfinished-over : (slots after : ℕ) (base : Running) (is : IsRun base) (at : IsAtCrash after base) (inside : base.manager.slots ≤ slots) (parts : Parts) (are : ArePartsOf base.manager parts) (restarted : Managed)
+pub unfinished-over : (slots after : ℕ) (base : Running) (is : IsRun base) (at : IsAtTurn after thens.Restart base) (inside : base.manager.slots ≤ slots) (parts : Parts) (are : ArePartsOf base.manager parts) (restarted : Managed)
     → Resumes base.manager.slots base.manager.mode base.manager.placement parts base.pending slots (on_device slots base.manager.state) restarted → (before : Progress) (front : List Effect)
-    → IsUnfinished slots before front base → IsUnfinished slots before front (record base { manager = restarted; fate = fates.RestartedAfter after })
+    → IsUnfinished slots before front base → IsUnfinished slots before front (record base { manager = restarted; fate = fates.Turned after thens.Restart })
 unfinished-over slots after base is at inside parts are restarted resumed before front (inl stands) =
     let stop = to-crash after base is at in
-    let first : StandsHalfway slots before front (crashing after base) = subst (StandsHalfway slots before front) stop.same stands in
-    inr (stands-over slots after base first.halfway stop.is inside (more-made after base first.halfway at.more) at.told_is parts are restarted resumed before front first.before_is first.front_is)
+    let first : StandsHalfway slots before front (turning after thens.Restart base) = subst (StandsHalfway slots before front) stop.same stands in
+    inr (stands-over slots after base first.halfway stop.is inside (more-made after thens.Restart base first.halfway at.more) at.told_is parts are restarted resumed before front first.before_is first.front_is)
 unfinished-over slots after base is at inside parts are restarted resumed before front (inr stands) =
-    absurd (let bad : fates.CrashAfter after ≡ fates.RestartedAfter stands.onward.after = sym at.fate_is ∙ stands.onward.fate_is in cc)
+    absurd (let bad : fates.Turns after thens.Restart ≡ fates.Turned stands.onward.after thens.Restart = sym at.fate_is ∙ stands.onward.fate_is in cc)
 
 -- ---- over the device that it stands over
 
-module _ (slots after : ℕ) (base now : Running) (view_is : base ≡ now) (is : IsRun base) (at : IsAtCrash after now) (within : now.manager.slots ≤ slots) (journal : List Write) (events : List Action) (agrees : journal ≡ writes_in events) (stood : IsAt slots events (progress_of slots now)) where
-  at_base : IsAtCrash after base
-  at_base = subst (IsAtCrash after) (sym view_is) at
+module _ (slots after : ℕ) (base now : Running) (view_is : base ≡ now) (is : IsRun base) (at : IsAtTurn after thens.Restart now) (within : now.manager.slots ≤ slots) (journal : List Write) (events : List Action) (agrees : journal ≡ writes_in events) (stood : IsAt slots events (progress_of slots now)) where
+  at_base : IsAtTurn after thens.Restart base
+  at_base = subst (IsAtTurn after thens.Restart) (sym view_is) at
 
   inside_base : base.manager.slots ≤ slots
   inside_base = subst (λ (r : Running). r.manager.slots ≤ slots) (sym view_is) within
 
-  stop : IsToStop after base
+  stop : IsToStop after thens.Restart base
   stop = to-crash after base is at_base
 
   -- the device shows what the manager's writes left
@@ -384,16 +343,16 @@ module _ (slots after : ℕ) (base now : Running) (view_is : base ≡ now) (is :
   -- another manager is asked for, with the setting and the parts of the first
   module _ (asked : ℕ) (mode : Mode) (placement : Placement) (asked_is : asked ≡ base.manager.slots) (mode_is : mode ≡ base.manager.mode) (placement_is : placement ≡ base.manager.placement) where
     -- in the place of which a blank one stands meanwhile
-    lost-shown : (blank : Managed) → blank ≡ fresh asked mode placement → ◌≡◌ {A = Running} (record base { manager = blank; told = 0; waiting = 0; fate = fates.ToTheEnd; broken = true }) (after_loss now)
+    lost-shown : (blank : Managed) → blank ≡ fresh asked mode placement → ◌≡◌ {A = Running} (record base { manager = blank; told = 0; waiting = 0; fate = fates.Finishes; broken = true }) (after_loss now)
     lost-shown blank blank_is =
-        ap (λ (manager : Managed). record base { manager = manager; told = 0; waiting = 0; fate = fates.ToTheEnd; broken = true })
+        ap (λ (manager : Managed). record base { manager = manager; told = 0; waiting = 0; fate = fates.Finishes; broken = true })
         (blank_is ∙ ap (λ n. fresh n mode placement) asked_is ∙ ap (λ (m : Mode). fresh base.manager.slots m placement) mode_is ∙ ap (fresh base.manager.slots base.manager.mode) placement_is)
         ∙ ap after_loss view_is
 
-    pub is-lost : (blank : Managed) → blank ≡ fresh asked mode placement → IsLost now (record base { manager = blank; told = 0; waiting = 0; fate = fates.ToTheEnd; broken = true })
+    pub is-lost : (blank : Managed) → blank ≡ fresh asked mode placement → IsLost now (record base { manager = blank; told = 0; waiting = 0; fate = fates.Finishes; broken = true })
     is-lost blank blank_is = inl (lost-shown blank blank_is)
 
-    pub run-lost : (blank : Managed) → blank ≡ fresh asked mode placement → IsRun (record base { manager = blank; told = 0; waiting = 0; fate = fates.ToTheEnd; broken = true })
+    pub run-lost : (blank : Managed) → blank ≡ fresh asked mode placement → IsRun (record base { manager = blank; told = 0; waiting = 0; fate = fates.Finishes; broken = true })
     run-lost blank blank_is = subst IsRun (sym (lost-shown blank blank_is)) (lost-run now (subst IsRun view_is is))
 
     module _ (old : Managed) (old_is : old ≡ base.manager) (parts : Parts) (of_old : ArePartsOf old parts) where
@@ -414,7 +373,7 @@ module _ (slots after : ℕ) (base now : Running) (view_is : base ≡ now) (is :
 
       module _ (restarted : Managed) (answers : AnswersRestart asked mode placement parts base.pending slots (replay slots journal) (Ok restarted)) where
         abbrev gone : Running
-        gone = record base { manager = restarted; fate = fates.RestartedAfter after }
+        gone = record base { manager = restarted; fate = fates.Turned after thens.Restart }
 
         resumed : Resumes base.manager.slots base.manager.mode base.manager.placement parts base.pending slots (on_device slots base.manager.state) restarted
         resumed = (as_shown (Ok restarted) answers).1
@@ -422,10 +381,10 @@ module _ (slots after : ℕ) (base now : Running) (view_is : base ≡ now) (is :
         pub run-gone : IsRun gone
         run-gone = run-over slots after base stop.half stop.is inside_base stop.more at_base.told_is parts are_parts restarted resumed
 
-        pub is-gone : IsGoneOnWith after now gone
+        pub is-gone : IsTurned after thens.Restart now gone
         is-gone =
             let held = held-over slots after base stop.half stop.is inside_base stop.more at_base.told_is parts are_parts restarted resumed in
-            (restarted, subst (λ (one : Option HeldCommit). IsSome one) (sym held) refl, ap (λ (r : Running). record r { manager = restarted; fate = fates.RestartedAfter after }) view_is)
+            (restarted, subst (λ (one : Option HeldCommit). IsSome one) (sym held) refl, ap (λ (r : Running). record r { manager = restarted; fate = fates.Turned after thens.Restart }) view_is)
 
         pub unfinished-gone : (before : Progress) (front : List Effect) → IsUnfinished slots before front now → IsUnfinished slots before front gone
         unfinished-gone before front unfinished =

@@ -34,11 +34,12 @@ use Rattle.batch_order.specs.Restart.{ArePartsOf, Resumes, in_use, rest_of}
 use Rattle.report_lines.specs.declared.Family.{Family}
 use Rattle.report_lines.specs.declared.Family.TheVariants.{Route, Acl, Route6, Acl6}
 use Rattle.replay.specs.declared.fate.Fate.TheVariants as fates
+use Rattle.replay.specs.declared.fate.Then.TheVariants as thens
 use Rattle.replay.specs.Effects.{Setting, Effect, Prints}
 use Rattle.replay.specs.Run.{Progress, Crashes, Judged, HasEffects, OfFamily, Restarts, actions_over, after_segment, carried, carried_so_far}
 use Rattle.replay.specs.Text.{restarted_line}
 use Rattle.replay.specs.Fates.{commit_act}
-use Rattle.replay.specs.Running.{Running, IsOnward, IsRun, first_actions, actions_left, progress_of, routes_of, setting_of}
+use Rattle.replay.specs.Running.{Running, IsOnward, IsRun, first_actions, progress_of, routes_of, setting_of}
 use Rattle.replay.proofs.course.Course.{Course, Ending, cuts-by_step}
 use Rattle.replay.proofs.course.Returning.{writes-up_to}
 use Rattle.replay.proofs.between.Runs.{in-use}
@@ -132,7 +133,7 @@ module _ (slots : ℕ) (run : Running) (onward : IsOnward slots run) (is : IsRun
 
   -- the actions of its plan
   pub rest-whole : with_drain drains goes.made ≡ onward.some.made ++ onward.some.left
-  rest-whole = ap (λ (held : HeldCommit). actions_left None onward.restarted.state held) (sym held-is) ∙ onward.some.whole
+  rest-whole = ap (λ (held : HeldCommit). held.actions) (sym held-is) ∙ onward.some.whole
 
   -- so these are all of them, over the crash
   pub all-over : (firsts ++ onward.some.made) ++ onward.some.left ≡ actions_over (setting_of (record run { manager = begun })) began_first onward.after holds.made goes.made
@@ -205,7 +206,7 @@ module _ (slots : ℕ) (run : Running) (onward : IsOnward slots run) (is : IsRun
         writes = run.writes + (onward.after + length goes.made);
         told = 0;
         waiting = 0;
-        fate = fates.ToTheEnd;
+        fate = fates.Finishes;
       }
 
   rules-now : run.manager.rules ≡ begun.rules
@@ -287,8 +288,8 @@ module _ (slots : ℕ) (run : Running) (onward : IsOnward slots run) (is : IsRun
   pub all-step : HasEffects (setting_of run) began_first (commit_act run.fate) (carried (setting_of run) began_first ((firsts ++ onward.some.made) ++ onward.some.left) ++ Prints line_over ∷ []) (progress_of slots ended_over)
   all-step =
       subst (λ fate. HasEffects (setting_of run) began_first (commit_act fate) (carried (setting_of run) began_first ((firsts ++ onward.some.made) ++ onward.some.left) ++ Prints line_over ∷ []) (progress_of slots ended_over)) (sym onward.fate_is)
-      (subst (λ setting. HasEffects setting began_first (commit_act (fates.RestartedAfter onward.after)) (carried setting began_first ((firsts ++ onward.some.made) ++ onward.some.left) ++ Prints line_over ∷ []) (progress_of slots ended_over)) (sym setting-first)
-      (subst (λ actions. HasEffects first_setting began_first (commit_act (fates.RestartedAfter onward.after)) (carried first_setting began_first actions ++ Prints line_over ∷ []) (progress_of slots ended_over)) (sym all-over)
+      (subst (λ setting. HasEffects setting began_first (commit_act (fates.Turned onward.after thens.Restart)) (carried setting began_first ((firsts ++ onward.some.made) ++ onward.some.left) ++ Prints line_over ∷ []) (progress_of slots ended_over)) (sym setting-first)
+      (subst (λ actions. HasEffects first_setting began_first (commit_act (fates.Turned onward.after thens.Restart)) (carried first_setting began_first actions ++ Prints line_over ∷ []) (progress_of slots ended_over)) (sym all-over)
       (judged-plain (Crashes onward.after) first_setting began_first all_effects (progress_of slots ended_over) onward.plain
       (subst (λ (verdict : Verdict). Judged (Crashes onward.after) first_setting began_first verdict all_effects (progress_of slots ended_over)) (sym onward.accepted) (inr restarts)))))
     where

@@ -1,5 +1,5 @@
--- What a commit comes to over its crash: one part, and then the other.
-use Rattle.std.proofs.Common.{◌≡◌, inl, inr, ℕ, List, [], ◌++◌, Option, Some, Result, Ok, Err, sym, ap, ◌∙◌, subst, append_assoc, append-nil}
+-- What a commit comes to over its turn: one part, and then the other.
+use Rattle.std.proofs.Common.{◌≡◌, inl, inr, ℕ, List, [], ◌++◌, Option, Result, Ok, Err, OnErr, sym, ap, ◌∙◌, subst, append_assoc, append-nil}
 use Rattle.std.specs.Io.KnownBytes.{Appends}
 use Rattle.std.proofs.KnownBytes.{Appends-trans}
 use Rattle.tcam_device.specs.declared.Action.{Action}
@@ -11,10 +11,11 @@ use Rattle.replay.specs.declared.RunFault.TheVariants as fault
 use Rattle.replay.specs.Effects.{Effect, Acts, Prints, events_in, printed}
 use Rattle.replay.specs.Run.{Progress, HasEffects, IsCutStep}
 use Rattle.replay.specs.Carried.{Does}
-use Rattle.replay.specs.declared.fate.Fate.{Fate}
 use Rattle.replay.specs.declared.fate.Fate.TheVariants as fates
-use Rattle.replay.specs.Crashing.{Continues, IsGoneOnWith, IsLost}
-use Rattle.replay.specs.Fates.{commit_act, crash_of}
+use Rattle.replay.specs.declared.fate.Then.{Then}
+use Rattle.replay.specs.declared.fate.Then.TheVariants as thens
+use Rattle.replay.specs.Crashing.{Continues, IsAtTurn, IsLost, IsTurned}
+use Rattle.replay.specs.Fates.{IsRestart, IsToCrash, commit_act}
 use Rattle.replay.specs.Running.{Running, progress_of, setting_of}
 use Rattle.replay.specs.Unfinished.{IsUnfinished, ResumesTo, TakesAtCrash}
 use Rattle.replay.specs.Outside.{outside}
@@ -63,12 +64,12 @@ resumes-then (Err fault.Memory) slots before act front mid new events events_mid
   does = does-then goes.more ends.more [] events events_mid events_new taken taken_mid taken_new goes.does ends.does;
 }
 
--- over its crash, by two managers
-pub carried-over : (result : Result (Unit {0}) RunFault) (slots after : ℕ) (before : Progress) (front : List Effect) (old mid over new : Running) (events events_mid events_new : List Action) (flight flight_new : Flight) (taken taken_mid taken_new : Option (List ℕ))
-    → old.fate ≡ fates.CrashAfter after → IsGoneOnWith after mid over → (goes : Continues slots before front mid (outside events taken) (outside events_mid taken_mid) flight)
+-- over its turn
+pub carried-over : (result : Result (Unit {0}) RunFault) (slots after : ℕ) (then : Then) (before : Progress) (front : List Effect) (old mid over new : Running) (events events_mid events_new : List Action) (flight flight_new : Flight) (taken taken_mid taken_new : Option (List ℕ))
+    → old.fate ≡ fates.Turns after then → IsTurned after then mid over → (goes : Continues slots before front mid (outside events taken) (outside events_mid taken_mid) flight)
     → ResumesTo slots before (commit_act over.fate) (front ++ goes.more) new result (outside events_mid taken_mid) (outside events_new taken_new) flight_new → ResumesTo slots before (commit_act old.fate) front new result (outside events taken) (outside events_new taken_new) flight_new
-carried-over result slots after before front old mid over new events events_mid events_new flight flight_new taken taken_mid taken_new fate_is gone goes ends =
-    let now : over.fate ≡ fates.RestartedAfter after = ap (λ (run : Running). run.fate) gone.2 in
+carried-over result slots after then before front old mid over new events events_mid events_new flight flight_new taken taken_mid taken_new fate_is gone goes ends =
+    let now : over.fate ≡ fates.Turned after then = ap (λ (run : Running). run.fate) gone.2 in
     let same : commit_act over.fate ≡ commit_act old.fate = ap commit_act now ∙ sym (ap commit_act fate_is) in
     resumes-then result slots before (commit_act old.fate) front mid new events events_mid events_new flight flight_new taken taken_mid taken_new goes
     (subst (λ act. ResumesTo slots before act (front ++ goes.more) new result (outside events_mid taken_mid) (outside events_new taken_new) flight_new) same ends)
@@ -86,12 +87,10 @@ pub setting-lost : (old new : Running) → IsLost old new → setting_of new ≡
 setting-lost old new (inl is) = ap setting_of is
 setting-lost old new (inr is) = ap setting_of is
 
--- one that is still to crash
-pub fate-crashes : (fate : Fate) (after : ℕ) → crash_of fate ≡ Some after → fate ≡ fates.CrashAfter after
-fate-crashes fates.ToTheEnd after is = absurd (cc)
-fate-crashes (fates.BackAfter most) after is = absurd (cc)
-fate-crashes (fates.CrashAfter limit) after is = ap fates.CrashAfter (some-injective limit after is)
-  where
-    some-injective : (x y : ℕ) → Some x ≡ Some y → x ≡ y
-    some-injective x y same = cc
-fate-crashes (fates.RestartedAfter limit) after is = absurd (cc)
+-- only a crash takes memory
+pub to-crash-at : (after : ℕ) (then : Then) (run : Running) → IsAtTurn after then run → then ≡ thens.Restart → IsToCrash run.fate
+to-crash-at after then run at is = subst IsToCrash (sym at.fate_is) (subst IsRestart (sym is) tt)
+
+pub where-err : {E A : Type 0} (result : Result (Unit {0}) E) → A → OnErr result A
+where-err (Ok done) holds = tt
+where-err (Err why) holds = holds

@@ -13,7 +13,8 @@ use Rattle.replay.specs.declared.ActFault.TheVariants.{BatchFull, ChangesPending
 use Rattle.replay.specs.declared.RunFault.{RunFault}
 use Rattle.replay.specs.declared.RunFault.TheVariants as fault
 use Rattle.replay.specs.declared.fate.Fate.TheVariants as fates
-use Rattle.replay.specs.Crashing.{IsGoneOnWith}
+use Rattle.replay.specs.declared.fate.Then.{Then}
+use Rattle.replay.specs.Crashing.{IsTurned}
 use Rattle.replay.specs.Effects.{waiting_after, probes_told}
 use Rattle.replay.specs.InFlight.{AreOf}
 use Rattle.replay.specs.Running.{Running, IsHalfway, IsRun, AreLeft, LeavesWords, sink_failed}
@@ -116,12 +117,12 @@ words-cut_run inside now count why flight_old flight_new is kind held are =
 pub left-taken : (inside : Running) (manager : Managed) (fate : Fate) (flight : Flight) → IsRun inside → inside.manager.held ≡ None → flight ≡ [] → AreLeft (record inside { manager = manager; fate = fate }) flight
 left-taken inside manager fate flight is idle none = left-none (record inside { manager = manager; fate = fate }) flight (is.idle idle).1 none
 
--- the manager that goes on with a commit has the words that were in flight
-pub left-gone : (after : ℕ) (old new : Running) (flight flight_new : Flight) → IsGoneOnWith after old new → IsSome old.manager.held → AreLeft old flight → flight_new ≡ flight → AreLeft new flight_new
-left-gone after old new flight flight_new gone held left kept =
+-- whoever goes on with a commit has the words that were in flight
+pub left-gone : (after : ℕ) (then : Then) (old new : Running) (flight flight_new : Flight) → IsTurned after then old new → IsSome old.manager.held → AreLeft old flight → flight_new ≡ flight → AreLeft new flight_new
+left-gone after then old new flight flight_new gone held left kept =
     subst (AreLeft new) (sym kept)
     (subst (λ (run : Running). AreLeft run flight) (sym gone.2)
-    (left-of (record old { manager = gone.0; fate = fates.RestartedAfter after }) flight gone.1 (are-of-left old flight held left)))
+    (left-of (record old { manager = gone.0; fate = fates.Turned after then }) flight gone.1 (are-of-left old flight held left)))
 
 -- whatever was in flight before, where it was left to the call
 pub words-from : (new : Running) (result : Result (Unit {0}) ActFault) (flight flight_old flight_new : Flight) → flight ≡ flight_old → LeavesWords new result flight flight_new → LeavesWords new result flight_old flight_new

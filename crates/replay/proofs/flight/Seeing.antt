@@ -137,10 +137,3 @@ lines-empty watch number state waiting (flying ∷ flight) are none = absurd (om
 pub empty-flight : (flight : Flight) → length flight ≡ 0 → flight ≡ []
 empty-flight [] none = refl
 empty-flight (flying ∷ flight) none = absurd (omega arith)
-
--- a manager that is turned round has the same state and the same live ranges
-pub seen-turned : (now new : Managed) (slots : ℕ) (events : List Action) (flight : Flight) → new.state ≡ now.state → live_now new ≡ live_now now → IsSeen slots events flight now → IsSeen slots events flight new
-seen-turned now new slots events flight state live seen = record {
-  on = ap (on_device slots) state ∙ seen.on;
-  current = subst (λ bits. AreCurrent bits flight) (sym live) seen.current;
-}

@@ -1,13 +1,7 @@
--- Where a commit has more writes than come before its crash the loop comes to that, or a part before it fails.
-use Rattle.std.proofs.Common.{true, refl}
-use Rattle.replay.proofs.making.Wrapped.{few-forward, not-ended}
+-- Where a commit has more writes than come before its turn the loop comes to that, or a part before it fails.
+use Rattle.std.proofs.Common.{true}
+use Rattle.replay.proofs.making.Wrapped.{not-ended}
 use Rattle.replay.proofs.steps.make_up_to.Goals as goal
-
-pub make_until-requires-clause-forward : goal.make_until-requires-clause-forward
-make_until-requires-clause-forward g c = λ some. (refl, c.requires.forward)
-
-pub make_until-requires-clause-few : goal.make_until-requires-clause-few
-make_until-requires-clause-few g c = few-forward c.args.count.now.told c.args.manager.now.state c.args.manager.now.held c.requires.few
 
 pub unreachable-requires : goal.unreachable-requires
 unreachable-requires g c =

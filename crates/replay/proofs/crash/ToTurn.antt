@@ -1,44 +1,47 @@
--- The first part of a commit that crashes: its course up to there.
-use Rattle.std.proofs.Common.{◌≡◌, ◌≢◌, ℕ, ◌+◌, ◌-◌, ◌^◌, ◌<◌, ◌≤◌, inl, inr, true, false, List, [], ◌∷◌, ◌++◌, Option, Some, None, IfSome, IsSome, Result, Ok, Err, length, length-append, refl, sym, ap, ◌∙◌, subst, append_assoc, append-nil, arith}
+-- The first part of a commit that is turned: its course up to there.
+use Rattle.std.proofs.Common.{◌≡◌, ◌≢◌, ℕ, ◌+◌, ◌-◌, ◌*◌, ◌^◌, ◌<◌, ◌≤◌, inl, inr, List, [], ◌∷◌, ◌++◌, Option, IfSome, IsSome, Result, Ok, Err, length, length-append, map, refl, sym, ap, ◌∙◌, subst, append_assoc, append-nil, arith}
 use Rattle.std.specs.List.{AllByRecursion}
 use Rattle.tcam_device.specs.declared.Action.{Action}
 use Rattle.tcam_device.specs.declared.Action.TheVariants.{Written}
 use Rattle.tcam_device.specs.Flight.{Flight, writes_in}
-use Rattle.tcam_device.specs.State.{IsInUse, on_device}
+use Rattle.tcam_device.specs.State.{IsInUse, on_device, state_after}
 use Rattle.tcam_device.proofs.Wider.{all_take}
 use Rattle.commit_writes.specs.Actions.{up_to_writes}
+use Rattle.commit_writes.specs.Undo.{undo_writes}
 use Rattle.commit_writes.specs.InFlight.{AreCurrent}
 use Rattle.commit_writes.proofs.WritesIn.{writes_in-append}
-use Rattle.batch_order.specs.Managed.{HeldCommit, Managed, Way, live_now}
-use Rattle.batch_order.specs.Managed.Way.{On, Back}
-use Rattle.batch_order.specs.Steps.{is_back}
+use Rattle.batch_order.specs.Managed.{HeldCommit, Managed, live_now}
 use Rattle.replay.specs.declared.RunFault.{RunFault}
 use Rattle.replay.specs.declared.RunFault.TheVariants as fault
 use Rattle.replay.specs.declared.fate.Fate.TheVariants as fates
+use Rattle.replay.specs.declared.fate.Then.{Then}
+use Rattle.replay.specs.declared.fate.Then.TheVariants as thens
+use Rattle.replay.specs.declared.Act.TheVariants.{Trial}
 use Rattle.replay.specs.declared.watch.Count.{Count}
-use Rattle.replay.specs.Effects.{Setting, Effect}
+use Rattle.replay.specs.Effects.{Setting, Effect, effects_of, probes_told, waiting_after}
 use Rattle.rule_store.specs.Verdict.{Accepted, verdict}
-use Rattle.replay.specs.Run.{Progress, GoesPast, StopsAtCrash, actions_before, carried_so_far}
+use Rattle.replay.specs.Run.{Progress, GoesPast, IsCutStep, StopsAtCrash, actions_before, carried_so_far}
+use Rattle.replay.specs.Text.{aborted_line}
 use Rattle.replay.specs.Carried.{IsAt}
-use Rattle.replay.specs.Fates.{IsUpTo, commit_act}
+use Rattle.replay.specs.Fates.{IsUpTo, commit_act, turning_act}
 use Rattle.replay.specs.Pausing.{MakesUpTo}
-use Rattle.replay.specs.Crashing.{ComesToCrash, HasMoreThan}
+use Rattle.replay.specs.Crashing.{ComesToTurn, HasMoreThan}
 use Rattle.replay.specs.InFlight.{IsSeen}
-use Rattle.replay.specs.Running.{Running, IsHalfway, IsRun, IsMidCommit, MakesSome, first_actions, goes_back, actions_left, progress_of, setting_of, turns_back, watching}
+use Rattle.replay.specs.Running.{Running, IsHalfway, IsRun, IsMidCommit, MakesSome, course_of, first_actions, progress_of, setting_of, watching}
 use Rattle.replay.specs.Making.{HasCome, snapshot}
 use Rattle.replay.specs.Unfinished.{IsUnfinished, StandsHalfway}
 use Rattle.replay.specs.Outside.{outside}
-use Rattle.replay.proofs.course.Course.{Course, at-more, breaks, count_of, does-made, later, stays, told-then}
-use Rattle.replay.proofs.making.Upto.{left-writes, next-up_to, whole-left}
-use Rattle.replay.proofs.making.Acting.{some-held}
-use Rattle.replay.proofs.between.Halfway.{begun-is, few-left, halfway-more, held-same, held_begun, run_begun, setting-begun, told-from, whole-forward, whole_actions}
+use Rattle.replay.proofs.course.Course.{Course, at-more, breaks, count_of, cuts-by_step, does-made, later, stays, told-then}
+use Rattle.replay.proofs.making.Upto.{next-up_to}
+use Rattle.replay.proofs.lines.Opened.{carried-append}
+use Rattle.replay.proofs.between.Halfway.{all-writes, begun-is, few-left, halfway-more, held_begun, run_begun, setting-begun, whole-forward, whole_actions}
 use Rattle.replay.proofs.making.Making.{then-left}
-use Rattle.replay.proofs.course.Resuming.{began, left-in_use, so_far, state-now, within_begun}
+use Rattle.replay.proofs.course.Resuming.{back-step, began, course_back, left-in_use, so_far, state-now, within_begun}
 use Rattle.replay.proofs.course.Returning.{writes-up_to}
 use Rattle.replay.proofs.between.Runs.{writes-of}
 use Rattle.replay.proofs.between.Settled.{cut-plain}
 
--- what comes before a crash does so in two parts
+-- what comes before a turn does so in two parts
 before-then : (after : ℕ) (first left more rest : List Action) → length (writes_in first) ≤ after → left ≡ more ++ rest → IsUpTo after first left → IsUpTo (after - length (writes_in first)) more rest → IsUpTo after (first ++ more) rest
 before-then after first left more rest within parts was is enough =
     let whole : (first ++ more) ++ rest ≡ first ++ left = append_assoc first more rest ∙ ap (λ actions. first ++ actions) (sym parts) in
@@ -61,13 +64,13 @@ before-then after first left more rest within parts was is enough =
         ap (λ actions. length (writes_in actions)) (append_assoc first more rest) ∙ ap length (writes_in-append first (more ++ rest)) ∙ length-append (writes_in first) (writes_in (more ++ rest)) in
         omega arith)
 
--- a run whose commit is to crash behind so many writes
-abbrev pub crashing : ℕ → Running → Running
-crashing after base = record base { fate = fates.CrashAfter after }
+-- a run whose commit is to be turned behind so many writes
+abbrev pub turning : ℕ → Then → Running → Running
+turning after then base = record base { fate = fates.Turns after then }
 
-module _ (slots after : ℕ) (base : Running) (half : IsHalfway (crashing after base)) (is : IsRun (crashing after base)) (inside : base.manager.slots ≤ slots) (more : after < length half.holds.1.made) where
+module _ (slots after : ℕ) (then : Then) (base : Running) (half : IsHalfway (turning after then base)) (is : IsRun (turning after then base)) (inside : base.manager.slots ≤ slots) (more : after < length half.holds.1.made) where
   abbrev run : Running
-  run = crashing after base
+  run = turning after then base
 
   abbrev first : Progress
   first = began slots run half is inside
@@ -87,7 +90,7 @@ module _ (slots after : ℕ) (base : Running) (half : IsHalfway (crashing after 
       let none : after - 0 ≡ after = omega arith in
       subst (λ n. IsUpTo n half.some.made half.some.left) none half.before
 
-  -- what is left up to the crash
+  -- what is left up to the turn
   abbrev pub left_first : List Action
   left_first = up_to_writes (after - length (writes_in half.some.made)) half.some.left
 
@@ -108,6 +111,18 @@ module _ (slots after : ℕ) (base : Running) (half : IsHalfway (crashing after 
   pub accepted-run : verdict (setting_of run).slots (setting_of run).mode half.begun.rules run.pending ≡ Accepted
   accepted-run = subst (λ setting. verdict setting.slots setting.mode half.begun.rules run.pending ≡ Accepted) (sym (setting-begun run half)) half.accepted
 
+  -- where one of its effects isn't had it is cut there, in the whole of a commit that is taken back, or up to its crash
+  pub cut-first : (way : Then) (some back : List Effect) (due : Effect) → carried_so_far (setting_of run) first (half.some.made ++ left_first) ≡ some ++ due ∷ back
+      → IsCutStep (setting_of run) first (turning_act way after) some due
+  cut-first thens.Restart some back due parts =
+      inr (cut-plain (setting_of run) first after some due half.plain accepted-run half.holds.1.made goes-past back (ap (carried_so_far (setting_of run) first) (sym whole-first) ∙ parts))
+  cut-first thens.Back some back due parts =
+      let front = first_actions run half.begun half.holds.1.made after in
+      let undo = map Written (undo_writes half.begun.state (writes_in front)) in
+      let behind = effects_of (setting_of run) (probes_told run.json first.probes) (0 + length (writes_in front)) (waiting_after run.depth 0 front) (state_after first.state (writes_in front)) undo in
+      cuts-by_step (setting_of run) first (Trial after) (course_back slots run half is inside after more) (aborted_line (run.commits + 1) (2 * after)) _ (back-step slots run half is inside after more) some (back ++ behind) due
+      (carried-append (setting_of run) first front undo ∙ ap (λ effects. effects ++ behind) (ap (carried_so_far (setting_of run) first) (sym first-made) ∙ parts) ∙ append_assoc some (due ∷ back) behind)
+
   abbrev pub course-first : Course slots first (so_far slots run half is inside) run
   course-first = record {
     made = half.some.made;
@@ -120,11 +135,21 @@ module _ (slots after : ℕ) (base : Running) (half : IsHalfway (crashing after 
     size = is.size;
     in_use = subst (AllByRecursion (IsInUse run.manager.slots)) (sym (writes-up_to (after - length (writes_in half.some.made)) half.some.left))
         (all_take (IsInUse run.manager.slots) (after - length (writes_in half.some.made)) (writes_in half.some.left) (left-in_use slots run half is inside));
-    cuts = λ some back due parts. inr (cut-plain (setting_of run) first after _ due half.plain accepted-run half.holds.1.made goes-past back
-        (ap (carried_so_far (setting_of run) first) (sym whole-first) ∙ parts));
+    cuts = cut-first then;
   }
 
-  -- at the crash its effects are all that come before
+  -- at the turn these are the actions that were made, and none of them is left
+  module _ (told : base.told ≡ after) where
+    none-ahead : after - length (writes_in half.some.made) ≡ 0
+    none-ahead = let number : length (writes_in half.some.made) ≡ after = sym half.told ∙ told in omega arith
+
+    pub none-first : left_first ≡ []
+    none-first = ap (λ n. up_to_writes n half.some.left) none-ahead
+
+    pub made-first : half.some.made ≡ first_actions run half.begun half.holds.1.made after
+    made-first = sym (append-nil half.some.made) ∙ ap (λ actions. half.some.made ++ actions) (sym none-first) ∙ first-made
+
+  -- at the turn its effects are all that come before
   pub stops-now : left_first ≡ [] → StopsAtCrash (setting_of run) first after (so_far slots run half is inside)
   stops-now none = record {
     made = half.holds.1.made;
@@ -132,8 +157,8 @@ module _ (slots after : ℕ) (base : Running) (half : IsHalfway (crashing after 
     effects_are = ap (carried_so_far (setting_of run) first) (sym (append-nil half.some.made) ∙ ap (λ actions. half.some.made ++ actions) (sym none) ∙ whole-first);
   }
 
-  -- more writes are left than come before the crash
-  pub enough-left : (now : Managed) (some : MakesSome None run.told run.manager now) → after - run.told < length (writes_in (some.made ++ some.left))
+  -- more writes are left than come before the turn
+  pub enough-left : (now : Managed) (some : MakesSome run.manager now) → after - run.told < length (writes_in (some.made ++ some.left))
   enough-left now some =
       let told = half.told in
       let within = half.within in
@@ -141,16 +166,16 @@ module _ (slots after : ℕ) (base : Running) (half : IsHalfway (crashing after 
       let parts : length (writes_in (whole_actions run half)) ≡ length (writes_in half.some.made) + length (writes_in half.some.left) =
       ap length (writes_in-append half.some.made half.some.left) ∙ length-append (writes_in half.some.made) (writes_in half.some.left) in
       let left : length (writes_in half.some.left) ≡ length (writes_in (some.made ++ some.left)) =
-      ap (λ actions. length (writes_in actions)) (then-left None 0 run.told half.begun run.manager now half.some (told-from run half) some) in
+      ap (λ actions. length (writes_in actions)) (then-left (course_of run.fate half.begun (held_begun run half)) run.manager now half.some some) in
       omega arith
 
-  -- some actions more, none past the crash
-  module _ (now : Managed) (count : Count) (some : MakesSome None run.told run.manager now) (come : HasCome (watching run) (count_of run) count some.made) (before : IsUpTo (after - run.told) some.made some.left) (few : count.told ≤ after) where
+  -- some actions more, none past the turn
+  module _ (now : Managed) (count : Count) (some : MakesSome run.manager now) (come : HasCome (watching run) (count_of run) count some.made) (before : IsUpTo (after - run.told) some.made some.left) (few : count.told ≤ after) where
     abbrev pub new : Running
     new = record run { manager = now; told = count.told; waiting = count.waiting }
 
     pub parts-first : half.some.left ≡ some.made ++ some.left
-    parts-first = then-left None 0 run.told half.begun run.manager now half.some (told-from run half) some
+    parts-first = then-left (course_of run.fate half.begun (held_begun run half)) run.manager now half.some some
 
     pub now-before : IsUpTo (after - 0) (half.some.made ++ some.made) some.left
     now-before =
@@ -164,7 +189,7 @@ module _ (slots after : ℕ) (base : Running) (half : IsHalfway (crashing after 
     abbrev pub still-half : IsHalfway new
     still-half = halfway-more run now count half some come now-before few
 
-    -- the actions that are left up to the crash begin with them
+    -- the actions that are left up to the turn begin with them
     pub left-first : left_first ≡ some.made ++ up_to_writes (after - run.told - length (writes_in some.made)) some.left
     left-first =
         let told = half.told in
@@ -198,7 +223,7 @@ module _ (slots after : ℕ) (base : Running) (half : IsHalfway (crashing after 
 
     pub comes : (result : Result (Unit {0}) RunFault) (now : Managed) (count : Count) (old taken : Option (List ℕ))
         → MakesUpTo Seen after (watching run) slots (snapshot run.manager (count_of run) (outside events_old old)) (snapshot now count (outside events_new taken)) result → (result ≢ Err fault.Sink → AreCurrent (live_now now) flight_new)
-        → ComesToCrash slots first (commit_act run.fate) (so_far slots run half is inside) (record run { manager = now; told = count.told; waiting = count.waiting }) result (outside events_old old) (outside events_new taken) flight_new
+        → ComesToTurn slots first (commit_act run.fate) (so_far slots run half is inside) (record run { manager = now; told = count.told; waiting = count.waiting }) result (outside events_old old) (outside events_new taken) flight_new
     comes (Ok done) now count old taken pauses current_new =
         let few : count.told ≤ after = let reached = pauses.reached in omega arith in
         record {
@@ -216,7 +241,7 @@ module _ (slots after : ℕ) (base : Running) (half : IsHalfway (crashing after 
         let some_left : 0 < ahead = omega (arith, below) in
         let due : up_to_writes ahead stops.some.left ≡ Written stops.due ∷ up_to_writes (ahead - 1) stops.left =
         ap (up_to_writes ahead) stops.left_is ∙ next-up_to ahead (Written stops.due) stops.left some_left in
-        subst (λ one. ComesToCrash slots first (commit_act run.fate) (so_far slots run half is inside) (record run { manager = now; told = count.told; waiting = count.waiting }) (Err one) (outside events_old old) (outside events_new taken) flight_new) (sym device)
+        subst (λ one. ComesToTurn slots first (commit_act run.fate) (so_far slots run half is inside) (record run { manager = now; told = count.told; waiting = count.waiting }) (Err one) (outside events_old old) (outside events_new taken) flight_new) (sym device)
         (stays slots first (so_far slots run half is inside) run course-first events_old events_new at (record run { manager = now; told = count.told; waiting = count.waiting })
         stops.some.made (up_to_writes (ahead - 1) stops.left) stops.due flight_new old taken
         (left ∙ ap (λ actions. stops.some.made ++ actions) due)
@@ -225,117 +250,72 @@ module _ (slots after : ℕ) (base : Running) (half : IsHalfway (crashing after 
         (ap (λ (manager : Managed). manager.state) stops.some.now_is)
         stops.next stops.events (stops.report seen) (unfinished-new now count stops.some stops.come before few) (current_new (λ e. absurd (let bad : fault.Device ≡ fault.Sink = cc in cc))))
     comes (Err why) now count old taken (inl (sink, (stops, before, few, cuts))) current_new =
-        subst (λ one. ComesToCrash slots first (commit_act run.fate) (so_far slots run half is inside) (record run { manager = now; told = count.told; waiting = count.waiting }) (Err one) (outside events_old old) (outside events_new taken) flight_new) (sym sink)
+        subst (λ one. ComesToTurn slots first (commit_act run.fate) (so_far slots run half is inside) (record run { manager = now; told = count.told; waiting = count.waiting }) (Err one) (outside events_old old) (outside events_new taken) flight_new) (sym sink)
         (breaks slots first (so_far slots run half is inside) run course-first events_old events_new at (record run { manager = now; told = count.told; waiting = count.waiting })
         (stops.some.made ++ up_to_writes (after - run.told - length (writes_in stops.some.made)) stops.some.left) [] old taken
         (left-first now count stops.some stops.come before few ∙ sym (append-nil (stops.some.made ++ up_to_writes (after - run.told - length (writes_in stops.some.made)) stops.some.left)))
         (ap (λ (manager : Managed). setting_of (record run { manager = manager })) stops.some.now_is)
         (cuts (enough-left now stops.some) seen))
 
--- one that isn't taken back isn't turned round
-pub goes-straight : (way : Way) (actions : List Action) → turns_back way None actions ≡ false → is_back way ≡ false
-goes-straight (On undo) actions on = refl
-goes-straight (Back undone) actions on = absurd (let bad : true ≡ false = on in cc)
-
--- the commit that is to crash
-module _ (after : ℕ) (run : Running) (half : IsHalfway (crashing after run)) where
-  abbrev one : HeldCommit
-  one = half.some.one
-
-  pub one-turned : is_back one.way ≡ false
-  one-turned = goes-straight one.way one.actions (half.some.same.back ∙ ap (goes_back None) (held-same (crashing after run) half))
-
-  held-one : run.manager.held ≡ Some one
-  held-one = some-held None 0 half.begun run.manager half.some
-
-  left-one : actions_left None run.manager.state one ≡ one.actions
-  left-one = whole-left run.manager.state one
-
-  pub held-forward : IfSome run.manager.held (λ held. is_back held.way ≡ false)
-  held-forward = subst (λ held. IfSome held (λ (x : HeldCommit). is_back x.way ≡ false)) (sym held-one) one-turned
-
-  pub held-more : HasMoreThan after run → IfSome run.manager.held (λ held. after < run.told + length (writes_in held.actions))
-  held-more more = more
-
-  pub held-few : IfSome run.manager.held (λ held. run.told + length (writes_in held.actions) ≤ 2 ^ 40)
-  held-few =
-      let few : run.told + length (writes_in (actions_left None run.manager.state one)) ≤ 2 ^ 40 =
-      subst (λ held. IfSome held (λ (x : HeldCommit). run.told + length (writes_in (actions_left None run.manager.state x)) ≤ 2 ^ 40)) held-one (few-left (crashing after run) half) in
-      subst (λ held. IfSome held (λ (x : HeldCommit). run.told + length (writes_in x.actions) ≤ 2 ^ 40)) (sym held-one) (subst (λ actions. run.told + length (writes_in actions) ≤ 2 ^ 40) left-one few)
-
 -- ---- by what a run is
 
--- the commit of a run that is to crash, and has more writes
-pub record IsToStop (after : ℕ) (run : Running) : Type 0 where
-  pub same : run ≡ crashing after run
-  pub is : IsRun (crashing after run)
-  pub half : IsHalfway (crashing after run)
+-- the commit of a run that is to be turned, and has more writes
+pub record IsToStop (after : ℕ) (then : Then) (run : Running) : Type 0 where
+  pub same : run ≡ turning after then run
+  pub is : IsRun (turning after then run)
+  pub half : IsHalfway (turning after then run)
   pub more : after < length half.holds.1.made
 
--- all of its writes are those that were told and those that are left
-pub all-writes : (after : ℕ) (run : Running) (half : IsHalfway (crashing after run)) → length half.holds.1.made ≡ run.told + length (writes_in half.some.one.actions)
-all-writes after run half =
-    let told = half.told in
-    let whole : length (writes_in (whole_actions (crashing after run) half)) ≡ length half.holds.1.made = ap length (whole-forward (crashing after run) half refl).1 in
-    let parts : length (writes_in (whole_actions (crashing after run) half)) ≡ length (writes_in half.some.made) + length (writes_in half.some.left) =
-    ap length (writes_in-append half.some.made half.some.left) ∙ length-append (writes_in half.some.made) (writes_in half.some.left) in
-    let due : length (writes_in half.some.one.actions) ≡ length (writes_in half.some.left) =
-    ap length (sym (left-writes run.manager.state half.some.one)) ∙ ap (λ actions. length (writes_in actions)) half.some.left_is in
-    omega arith
-
-pub more-made : (after : ℕ) (run : Running) (half : IsHalfway (crashing after run)) → HasMoreThan after run → after < length half.holds.1.made
-more-made after run half more =
-    let due : after < run.told + length (writes_in half.some.one.actions) =
+pub more-made : (after : ℕ) (then : Then) (run : Running) (half : IsHalfway (turning after then run)) → HasMoreThan after run → after < length half.holds.1.made
+more-made after then run half more =
+    let due : after < run.told + length (writes_in half.some.left) =
     subst (λ held. IfSome held (λ (one : HeldCommit). after < run.told + length (writes_in one.actions))) (ap (λ (manager : Managed). manager.held) half.some.now_is) more in
-    let all = all-writes after run half in
+    let all = all-writes (turning after then run) half refl in
     omega arith
 
--- while it is to crash it has its first manager
-first-half : (after : ℕ) (run : Running) → IsRun (crashing after run) → IsSome run.manager.held → IsHalfway (crashing after run)
-first-half after run is held = go (is.halfway held)
+-- while it is to be turned it has its first manager
+first-half : (after : ℕ) (then : Then) (run : Running) → IsRun (turning after then run) → IsSome run.manager.held → IsHalfway (turning after then run)
+first-half after then run is held = go (is.halfway held)
   where
-    go : IsMidCommit (crashing after run) → IsHalfway (crashing after run)
+    go : IsMidCommit (turning after then run) → IsHalfway (turning after then run)
     go (inl half) = half
-    go (inr (slots, within, onward)) = absurd (let bad : fates.CrashAfter after ≡ fates.RestartedAfter onward.after = onward.fate_is in cc)
+    go (inr (slots, within, onward)) = absurd (let bad : fates.Turns after then ≡ fates.Turned onward.after thens.Restart = onward.fate_is in cc)
 
-pub to-stop : (after : ℕ) (run : Running) → IsRun run → IsSome run.manager.held → run.fate ≡ fates.CrashAfter after → HasMoreThan after run → IsToStop after run
-to-stop after run is held fate_is more =
-    let same : run ≡ crashing after run = ap (λ fate. record run { fate = fate }) fate_is in
-    let is_crashing : IsRun (crashing after run) = subst IsRun same is in
-    let half = first-half after run is_crashing held in
-    record { same = same; is = is_crashing; half = half; more = more-made after run half more }
+pub to-stop : (after : ℕ) (then : Then) (run : Running) → IsRun run → IsSome run.manager.held → run.fate ≡ fates.Turns after then → HasMoreThan after run → IsToStop after then run
+to-stop after then run is held fate_is more =
+    let same : run ≡ turning after then run = ap (λ fate. record run { fate = fate }) fate_is in
+    let is_turning : IsRun (turning after then run) = subst IsRun same is in
+    let half = first-half after then run is_turning held in
+    record { same = same; is = is_turning; half = half; more = more-made after then run half more }
 
 -- few writes were told and are left
-pub few-due : (after : ℕ) (run : Running) → IsRun run → IsSome run.manager.held → run.fate ≡ fates.CrashAfter after → IfSome run.manager.held (λ held. run.told + length (writes_in held.actions) ≤ 2 ^ 40)
-few-due after run is held fate_is =
-    let half = first-half after run (subst IsRun (ap (λ fate. record run { fate = fate }) fate_is) is) held in
-    subst (λ held. IfSome held (λ (x : HeldCommit). run.told + length (writes_in x.actions) ≤ 2 ^ 40)) (sym (held-one after run half))
-    (subst (λ writes. run.told + length writes ≤ 2 ^ 40) (left-writes run.manager.state half.some.one)
-    (subst (λ held. IfSome held (λ (x : HeldCommit). run.told + length (writes_in (actions_left None run.manager.state x)) ≤ 2 ^ 40)) (held-one after run half) (few-left (crashing after run) half)))
+pub few-due : (after : ℕ) (then : Then) (run : Running) → IsRun run → IsSome run.manager.held → run.fate ≡ fates.Turns after then → IfSome run.manager.held (λ held. run.told + length (writes_in held.actions) ≤ 2 ^ 40)
+few-due after then run is held fate_is =
+    few-left (turning after then run) (first-half after then run (subst IsRun (ap (λ fate. record run { fate = fate }) fate_is) is) held)
 
-pub stop-at : (after : ℕ) (base now : Running) → base ≡ now → IsRun base → IsSome now.manager.held → now.fate ≡ fates.CrashAfter after → HasMoreThan after now → IsToStop after base
-stop-at after base now same is held fate_is more =
-    to-stop after base is (subst (λ (r : Running). IsSome r.manager.held) (sym same) held) (ap (λ (r : Running). r.fate) same ∙ fate_is) (subst (HasMoreThan after) (sym same) more)
+pub stop-at : (after : ℕ) (then : Then) (base now : Running) → base ≡ now → IsRun base → IsSome now.manager.held → now.fate ≡ fates.Turns after then → HasMoreThan after now → IsToStop after then base
+stop-at after then base now same is held fate_is more =
+    to-stop after then base is (subst (λ (r : Running). IsSome r.manager.held) (sym same) held) (ap (λ (r : Running). r.fate) same ∙ fate_is) (subst (HasMoreThan after) (sym same) more)
 
 -- what its first part comes to, from where it began
-pub comes-to : (slots after : ℕ) (run : Running) (stop : IsToStop after run) → HasMoreThan after run → run.manager.slots ≤ slots → (before : Progress) (front : List Effect) → IsUnfinished slots before front run
+pub comes-to : (slots after : ℕ) (then : Then) (run : Running) (stop : IsToStop after then run) → HasMoreThan after run → run.manager.slots ≤ slots → (before : Progress) (front : List Effect) → IsUnfinished slots before front run
     → (events_old events_new : List Action) (flight flight_new : Flight) → IsAt slots events_old (progress_of slots run) → AreCurrent (live_now run.manager) flight
     → (result : Result (Unit {0}) RunFault) (now : Managed) (count : Count) (old taken : Option (List ℕ))
     → MakesUpTo (IsSeen slots events_old flight run.manager) after (watching run) slots (snapshot run.manager (count_of run) (outside events_old old)) (snapshot now count (outside events_new taken)) result → (result ≢ Err fault.Sink → AreCurrent (live_now now) flight_new)
-    → ComesToCrash slots before (commit_act run.fate) front (record run { manager = now; told = count.told; waiting = count.waiting }) result (outside events_old old) (outside events_new taken) flight_new
-comes-to slots after run stop more inside before front (inl stands) events_old events_new flight flight_new at current result now count old taken makes current_new =
-    let first : StandsHalfway slots before front (crashing after run) = subst (StandsHalfway slots before front) stop.same stands in
+    → ComesToTurn slots before (commit_act run.fate) front (record run { manager = now; told = count.told; waiting = count.waiting }) result (outside events_old old) (outside events_new taken) flight_new
+comes-to slots after then run stop more inside before front (inl stands) events_old events_new flight flight_new at current result now count old taken makes current_new =
+    let first : StandsHalfway slots before front (turning after then run) = subst (StandsHalfway slots before front) stop.same stands in
     let half = first.halfway in
-    let start : Progress = began slots (crashing after run) half stop.is inside in
-    let so : front ≡ so_far slots (crashing after run) half stop.is inside =
+    let start : Progress = began slots (turning after then run) half stop.is inside in
+    let so : front ≡ so_far slots (turning after then run) half stop.is inside =
     first.front_is ∙ ap (λ (progress : Progress). carried_so_far (setting_of run) progress half.some.made) first.before_is in
-    let fate_is : run.fate ≡ fates.CrashAfter after = ap (λ (r : Running). r.fate) stop.same in
-    subst (λ (new : Running). ComesToCrash slots before (commit_act run.fate) front new result (outside events_old old) (outside events_new taken) flight_new)
+    let fate_is : run.fate ≡ fates.Turns after then = ap (λ (r : Running). r.fate) stop.same in
+    subst (λ (new : Running). ComesToTurn slots before (commit_act run.fate) front new result (outside events_old old) (outside events_new taken) flight_new)
     (sym (ap (λ (r : Running). record r { manager = now; told = count.told; waiting = count.waiting }) stop.same))
-    (subst (λ act. ComesToCrash slots before act front (record (crashing after run) { manager = now; told = count.told; waiting = count.waiting }) result (outside events_old old) (outside events_new taken) flight_new) (sym (ap commit_act fate_is))
-    (subst (λ progress. ComesToCrash slots progress (commit_act (fates.CrashAfter after)) front (record (crashing after run) { manager = now; told = count.told; waiting = count.waiting }) result (outside events_old old) (outside events_new taken) flight_new) (sym first.before_is)
-    (subst (λ effects. ComesToCrash slots start (commit_act (fates.CrashAfter after)) effects (record (crashing after run) { manager = now; told = count.told; waiting = count.waiting }) result (outside events_old old) (outside events_new taken) flight_new) (sym so)
-    (comes slots after run half stop.is inside (more-made after run half more) events_old events_new flight flight_new at current result now count old taken makes current_new))))
-comes-to slots after run stop more inside before front (inr stands) events_old events_new flight flight_new at current result now count old taken makes current_new =
-    absurd (let fate_is : run.fate ≡ fates.CrashAfter after = ap (λ (r : Running). r.fate) stop.same in
-    let bad : fates.CrashAfter after ≡ fates.RestartedAfter stands.onward.after = sym fate_is ∙ stands.onward.fate_is in cc)
+    (subst (λ act. ComesToTurn slots before act front (record (turning after then run) { manager = now; told = count.told; waiting = count.waiting }) result (outside events_old old) (outside events_new taken) flight_new) (sym (ap commit_act fate_is))
+    (subst (λ progress. ComesToTurn slots progress (commit_act (fates.Turns after then)) front (record (turning after then run) { manager = now; told = count.told; waiting = count.waiting }) result (outside events_old old) (outside events_new taken) flight_new) (sym first.before_is)
+    (subst (λ effects. ComesToTurn slots start (commit_act (fates.Turns after then)) effects (record (turning after then run) { manager = now; told = count.told; waiting = count.waiting }) result (outside events_old old) (outside events_new taken) flight_new) (sym so)
+    (comes slots after then run half stop.is inside (more-made after then run half more) events_old events_new flight flight_new at current result now count old taken makes current_new))))
+comes-to slots after then run stop more inside before front (inr stands) events_old events_new flight flight_new at current result now count old taken makes current_new =
+    absurd (let fate_is : run.fate ≡ fates.Turns after then = ap (λ (r : Running). r.fate) stop.same in
+    let bad : fates.Turns after then ≡ fates.Turned stands.onward.after thens.Restart = sym fate_is ∙ stands.onward.fate_is in cc)
