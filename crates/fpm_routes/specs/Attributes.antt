@@ -1,5 +1,5 @@
 -- The attributes of a message.
-use Rattle.std.specs.Prelude.{suc, zero, ℕ, Bool, ◌==◌, ◌||◌, nat_lt, is_some, Result, Ok, Err, Option, Some, None, List, length, if◌then◌else◌}
+use Rattle.std.specs.Prelude.{suc, zero, ℕ, ◌%◌, Bool, ◌==◌, ◌||◌, nat_lt, is_some, Result, Ok, Err, Option, Some, None, List, length, if◌then◌else◌}
 use Rattle.fpm_routes.specs.declared.why.Why.{Why}
 use Rattle.fpm_routes.specs.declared.why.Why.TheVariants as why
 use Rattle.fpm_routes.specs.declared.why.Unsaid.{Unsaid}
@@ -15,7 +15,7 @@ pub record Attribute : Type 0 where
 
 abbrev pub attribute_by : List ℕ → Option Part → Option Attribute
 attribute_by bytes None = None
-attribute_by bytes (Some part) = Some (record { kind = two_at 2 bytes; value = part.inside; rest = part.rest })
+attribute_by bytes (Some part) = Some (record { kind = two_at 2 bytes % 32768; value = part.inside; rest = part.rest })
 
 -- the first one
 abbrev pub attribute_of : List ℕ → Option Attribute

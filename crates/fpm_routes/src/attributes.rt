@@ -17,12 +17,15 @@ pub(crate) enum Place {
     Object,
 }
 
-/// The first attribute, if it is there as a whole: its kind, its value, and what stands behind it.
+/// The flag beside the kind of an attribute that has others in it, which zebra sets.
+const NESTED: u16 = 32768;
+
+/// The first attribute, if it is there as a whole: its kind without that flag, its value, and what stands behind it.
 fn attribute_of(bytes: &[u8]) -> Option<(u16, &[u8], &[u8])>
     ensures { MatchOption result (attribute_of bytes.now ≡ None) (λ a. attribute_of bytes.now ≡ Some (record { kind = a.0; value = a.1.now; rest = a.2.now })) }
 {
     match part_of(4, u32::from(two_at(0, bytes)), bytes) {
-        Some((value, rest)) => Some((two_at(2, bytes), value, rest)),
+        Some((value, rest)) => Some((two_at(2, bytes) % NESTED, value, rest)),
         None => None,
     }
 }
