@@ -1,3 +1,9 @@
 mod Naming
 mod Steps
 mod Puts
+mod Loops
+mod Pieces
+mod Holding
+mod Beside
+mod Between
+mod Ranges

@@ -1,5 +1,9 @@
 pub mod Words
 pub mod Names
+pub mod Faces
+pub mod Passing
+pub mod Values
 pub mod Reading
 pub mod Lines
 pub mod Telling
+pub mod Laws

@@ -1,5 +1,6 @@
 -- What a line is, by the table in which it stands, and what it changes.
 use Rattle.std.specs.Prelude.{ℕ, Bool, true, false, not, ◌==◌, ◌&&◌, ◌||◌, Result, Ok, Err, Option, Some, None, List, [], ◌∷◌, length, slice_index, codes, if◌then◌else◌}
+use Rattle.std.specs.List.{list_any}
 use Rattle.std.specs.Str.{bytes_eq}
 use Rattle.rule_model.specs.declared.IpVersion.{IpVersion}
 use Rattle.written_chains.specs.declared.meets.Tests.{Tests}
@@ -12,10 +13,10 @@ use Rattle.iptables.specs.declared.lines.Kind.{Kind}
 use Rattle.iptables.specs.declared.lines.Kind.TheVariants as kind
 use Rattle.iptables.specs.declared.lines.Change.{Change}
 use Rattle.iptables.specs.declared.lines.Change.TheVariants as change
-use Rattle.iptables.specs.declared.reading.Seen.{Seen}
 use Rattle.iptables.specs.declared.why.Why.TheVariants as why
 use Rattle.iptables.specs.Names.{name_number}
-use Rattle.iptables.specs.Reading.{Unsaid, first_seen, passes, read_words}
+use Rattle.iptables.specs.Passing.{passes}
+use Rattle.iptables.specs.Reading.{Read, Unsaid, nothing_read, read_words}
 
 -- the chains that packets meet first
 abbrev pub hook_name : Hook → List ℕ
@@ -55,7 +56,15 @@ kind_in table.Filter first = in_filter first
 kind_in table.Other first = in_other first
 
 abbrev pub kind_of : Table → List ℕ → Kind
-kind_of at first = if begins_with first 35 then kind.Nothing else kind_in at first
+kind_of at first = if begins_with first 35 then kind.Remark else kind_in at first
+
+-- ---- what a line changes, and the tests of the rule that it adds
+pub record Changed : Type 0 where
+  pub change : Change
+  pub tests : List Tests
+
+abbrev pub plain : Change → Result Changed Unsaid
+plain change = Ok (record { change = change; tests = [] })
 
 -- ---- a chain
 
@@ -66,48 +75,85 @@ policy_of word =
     else if bytes_eq word (codes "-") then Some None
     else None
 
-abbrev pub declares : List ℕ → Option (Option Bool) → Result Change Unsaid
-declares word (Some policy) = Ok (change.Declares policy)
+abbrev pub declares : List ℕ → Option (Option Bool) → Result Changed Unsaid
+declares word (Some policy) = plain (change.Declares policy)
 declares word None = Err (record { why = why.Policy; word = word })
 
-abbrev pub declared : List ℕ → List (List ℕ) → Result Change Unsaid
+-- a quote stands in a text
+abbrev pub has_quote : List ℕ → Bool
+has_quote text = list_any (λ byte. byte == 34) text
+
+-- a chain is declared that has the name of a target that decides
+abbrev pub names_verdict : List ℕ → Bool
+names_verdict first =
+    bytes_eq first (codes ":ACCEPT") || bytes_eq first (codes ":DROP") || bytes_eq first (codes ":REJECT") || bytes_eq first (codes ":RETURN")
+
+-- a chain is declared that has the name of a target behind which a packet goes on
+abbrev pub names_passing : List ℕ → Bool
+names_passing first =
+    bytes_eq first (codes ":LOG") || bytes_eq first (codes ":NFLOG") || bytes_eq first (codes ":AUDIT") || bytes_eq first (codes ":TRACE")
+
+-- A chain of the name of a target, as `nft` makes them, but `iptables` doesn't, since jumps to it look like that target, or with a quote in
+-- its name, which looks like the end of a text.
+abbrev pub is_ambiguous : List ℕ → Bool
+is_ambiguous first = has_quote first || names_verdict first || names_passing first
+
+abbrev pub declared : List ℕ → List (List ℕ) → Result Changed Unsaid
 declared first [] = Err (record { why = why.Value; word = first })
-declared first (word ∷ words) = declares word (policy_of word)
+declared first (word ∷ words) =
+    if is_ambiguous first then Err (record { why = why.Target; word = first }) else declares word (policy_of word)
 
 -- ---- a rule
 
-abbrev pub seen_change : ℕ → Tests → Option Target → List ℕ → Result Change Unsaid
-seen_change number tests (Some target) chain = Ok (change.Adds (record { chain = number; tests = tests; target = target }))
-seen_change number tests None chain = Err (record { why = why.Target; word = chain })
+-- one that no packet can have changes nothing
+abbrev pub added : ℕ → Target → List Tests → Change
+added number target [] = change.Empty
+added number target (tests ∷ more) = change.Adds number target
 
-abbrev pub read_change : ℕ → List ℕ → Result Seen Unsaid → Result Change Unsaid
-read_change number chain (Ok seen) = seen_change number seen.tests seen.target chain
+abbrev pub target_change : ℕ → Option Target → List Tests → List ℕ → Result Change Unsaid
+target_change number (Some target) tests chain = Ok (added number target tests)
+target_change number None tests chain = Err (record { why = why.Target; word = chain })
+
+abbrev pub with_tests : List Tests → Result Change Unsaid → Result Changed Unsaid
+with_tests tests (Ok change) = Ok (record { change = change; tests = tests })
+with_tests tests (Err unsaid) = Err unsaid
+
+abbrev pub read_change : ℕ → List ℕ → Result Read Unsaid → Result Changed Unsaid
+read_change number chain (Ok read) = with_tests read.tests (target_change number read.seen.target read.tests chain)
 read_change number chain (Err unsaid) = Err unsaid
 
-abbrev pub chain_change : ℕ → List (List ℕ) → IpVersion → List ℕ → List (List ℕ) → Result Change Unsaid
-chain_change number names version chain words =
-    if passes false words then Ok change.Notes else read_change number chain (read_words version names first_seen [] words)
+abbrev pub chain_change : ℕ → List (List ℕ) → IpVersion → List ℕ → List ℕ → List (List ℕ) → Result Changed Unsaid
+chain_change number names version face chain words =
+    if passes false words then plain change.Notes else read_change number chain (read_words version face names nothing_read [] words)
 
-abbrev pub numbered_change : Option ℕ → List (List ℕ) → IpVersion → List ℕ → List (List ℕ) → Result Change Unsaid
-numbered_change None names version chain words = Err (record { why = why.Chain; word = chain })
-numbered_change (Some number) names version chain words = chain_change number names version chain words
+abbrev pub numbered_change : Option ℕ → List (List ℕ) → IpVersion → List ℕ → List ℕ → List (List ℕ) → Result Changed Unsaid
+numbered_change None names version face chain words = Err (record { why = why.Chain; word = chain })
+numbered_change (Some number) names version face chain words = chain_change number names version face chain words
 
-abbrev pub rule_change : Hook → List (List ℕ) → IpVersion → List ℕ → List (List ℕ) → Result Change Unsaid
-rule_change hook names version first [] = Err (record { why = why.Value; word = first })
-rule_change hook names version first (chain ∷ words) =
-    if is_other_hook hook chain then Ok change.Nothing else numbered_change (name_number names chain) names version chain words
+abbrev pub rule_change : Hook → List (List ℕ) → IpVersion → List ℕ → List ℕ → List (List ℕ) → Result Changed Unsaid
+rule_change hook names version face first [] = Err (record { why = why.Value; word = first })
+rule_change hook names version face first (chain ∷ words) =
+    if is_other_hook hook chain then plain change.Nothing else numbered_change (name_number names chain) names version face chain words
+
+-- ---- a comment
+
+-- by one that begins so `iptables-save` says that it doesn't print all chains of a table
+abbrev pub remark_change : List (List ℕ) → Result Changed Unsaid
+remark_change [] = plain change.Nothing
+remark_change (word ∷ words) = if bytes_eq word (codes "Table") then Err (record { why = why.Beside; word = word }) else plain change.Nothing
 
 -- ---- a line
 
-abbrev pub word_change : Kind → Hook → List (List ℕ) → IpVersion → List ℕ → List (List ℕ) → Result Change Unsaid
-word_change kind.Nothing hook names version first words = Ok change.Nothing
-word_change (kind.Begins at) hook names version first words = Ok (change.Begins at)
-word_change kind.Declares hook names version first words = declared first words
-word_change kind.Rule hook names version first words = rule_change hook names version first words
-word_change kind.Lists hook names version first words = Ok change.Lists
-word_change kind.Unknown hook names version first words = Err (record { why = why.Word; word = first })
+abbrev pub word_change : Kind → Hook → List (List ℕ) → IpVersion → List ℕ → List ℕ → List (List ℕ) → Result Changed Unsaid
+word_change kind.Nothing hook names version face first words = plain change.Nothing
+word_change kind.Remark hook names version face first words = remark_change words
+word_change (kind.Begins at) hook names version face first words = plain (change.Begins at)
+word_change kind.Declares hook names version face first words = declared first words
+word_change kind.Rule hook names version face first words = rule_change hook names version face first words
+word_change kind.Lists hook names version face first words = plain change.Lists
+word_change kind.Unknown hook names version face first words = Err (record { why = why.Word; word = first })
 
 -- What a line changes, by its words.
-abbrev pub change_of : Table → Hook → List (List ℕ) → IpVersion → List (List ℕ) → Result Change Unsaid
-change_of at hook names version [] = Ok change.Nothing
-change_of at hook names version (first ∷ words) = word_change (kind_of at first) hook names version first words
+abbrev pub change_of : Table → Hook → List (List ℕ) → IpVersion → List ℕ → List (List ℕ) → Result Changed Unsaid
+change_of at hook names version face [] = plain change.Nothing
+change_of at hook names version face (first ∷ words) = word_change (kind_of at first) hook names version face first words

@@ -13,6 +13,7 @@ use Rattle.written_chains.specs.declared.writing.ChainRule.{ChainRule}
 use Rattle.written_chains.specs.declared.writing.Line.{Line}
 use Rattle.written_chains.specs.declared.writing.Refused.{Refused}
 use Rattle.written_chains.specs.declared.writing.Refused.TheVariants.{TooDeep, TooMany}
+use Rattle.written_chains.specs.declared.writing.Target.{Target}
 use Rattle.written_chains.specs.Walks.{or_policy}
 use Rattle.written_chains.specs.Written.{written_out}
 use Rattle.iptables.specs.declared.lines.Change.{Change}
@@ -22,9 +23,10 @@ use Rattle.iptables.specs.declared.lines.Table.{Table}
 use Rattle.iptables.specs.declared.lines.Table.TheVariants as table
 use Rattle.iptables.specs.declared.why.Why.{Why}
 use Rattle.iptables.specs.declared.why.Why.TheVariants as why
-use Rattle.iptables.specs.Lines.{change_of, hook_name}
+use Rattle.iptables.specs.Lines.{Changed, change_of, hook_name}
 use Rattle.iptables.specs.Names.{name_number, names_with}
-use Rattle.iptables.specs.Reading.{Unsaid, any_tests}
+use Rattle.iptables.specs.Reading.{Unsaid}
+use Rattle.iptables.specs.Values.{any_tests}
 use Rattle.iptables.specs.Words.{why_text}
 
 -- ---- the lines of a script
@@ -75,9 +77,12 @@ list_text version policy last number [] = rule_text version number policy last
 list_text version policy last number (line ∷ lines) =
     rule_text version number (or_policy policy line.action) line.tests ++ list_text version policy last (number + 10) lines
 
--- the comments on a rule that decides nothing, and on another table
+-- the comments on a rule that decides nothing, on one that holds no packet, and on another table
 abbrev pub note_line : List ℕ → List ℕ
 note_line text = codes "# no verdict: " ++ (text ++ codes "\n")
+
+abbrev pub empty_line : List ℕ → List ℕ
+empty_line text = codes "# no packet: " ++ (text ++ codes "\n")
 
 abbrev pub table_line : List ℕ → List ℕ
 table_line text = codes "# another table: " ++ (text ++ codes "\n")
@@ -93,20 +98,21 @@ unsaid_text reason word = why_text reason ++ (codes ": " ++ take 64 word)
 
 -- ---- what is known
 
--- the version of IP, the chain that is asked for, the table in which the next line stands, the chains that are declared, the rules of all of
+-- the version of IP, the chain that is asked for, the interface by which packets come in, no name for any, the table in which the next line stands, the chains that are declared, the rules of all of
 -- them, that chain's policy, and whether its list is written
 pub record Known : Type 0 where
   pub version : IpVersion
   pub hook : Hook
+  pub face : List ℕ
   pub table : Table
   pub names : List (List ℕ)
   pub rules : List ChainRule
   pub policy : Option Bool
   pub listed : Bool
 
-abbrev pub nothing_known : IpVersion → Hook → Known
-nothing_known version hook =
-    record { version = version; hook = hook; table = table.Outside; names = []; rules = []; policy = None; listed = false }
+abbrev pub nothing_known : IpVersion → Hook → List ℕ → Known
+nothing_known version hook face =
+    record { version = version; hook = hook; face = face; table = table.Outside; names = []; rules = []; policy = None; listed = false }
 
 -- ---- a list
 
@@ -154,29 +160,36 @@ abbrev pub change_told : Known → List ℕ → Change → LineTold
 change_told known text change.Nothing = SaidBy []
 change_told known text (change.Begins at) = SaidBy (begun_text at text)
 change_told known text (change.Declares policy) = SaidBy []
-change_told known text (change.Adds rule) = SaidBy []
+change_told known text (change.Adds chain target) = SaidBy []
 change_told known text change.Notes = SaidBy (note_line text)
+change_told known text change.Empty = SaidBy (empty_line text)
 change_told known text change.Lists = listed_told known (list_of known)
 
--- and what is known behind it
-abbrev pub change_after : Known → List ℕ → Change → Known
-change_after known text change.Nothing = known
-change_after known text (change.Begins at) = record known { table = at }
-change_after known text (change.Declares policy) = with_chain known policy (declared_name (words_of text))
-change_after known text (change.Adds rule) = record known { rules = known.rules ++ rule ∷ [] }
-change_after known text change.Notes = known
-change_after known text change.Lists = with_list known
+-- the rules of a chain that have one target, a rule for each of the tests
+abbrev pub rules_of : ℕ → Target → List Tests → List ChainRule
+rules_of chain target [] = []
+rules_of chain target (tests ∷ more) = record { chain = chain; tests = tests; target = target } ∷ rules_of chain target more
 
-abbrev pub told_of : Known → List ℕ → Result Change Unsaid → LineTold
-told_of known text (Ok change) = change_told known text change
+-- and what is known behind it
+abbrev pub change_after : Known → List ℕ → List Tests → Change → Known
+change_after known text tests change.Nothing = known
+change_after known text tests (change.Begins at) = record known { table = at }
+change_after known text tests (change.Declares policy) = with_chain known policy (declared_name (words_of text))
+change_after known text tests (change.Adds chain target) = record known { rules = known.rules ++ rules_of chain target tests }
+change_after known text tests change.Notes = known
+change_after known text tests change.Empty = known
+change_after known text tests change.Lists = with_list known
+
+abbrev pub told_of : Known → List ℕ → Result Changed Unsaid → LineTold
+told_of known text (Ok changed) = change_told known text changed.change
 told_of known text (Err unsaid) = UnsaidBy (unsaid_text unsaid.why unsaid.word)
 
-abbrev pub after_of : Known → List ℕ → Result Change Unsaid → Known
-after_of known text (Ok change) = change_after known text change
+abbrev pub after_of : Known → List ℕ → Result Changed Unsaid → Known
+after_of known text (Ok changed) = change_after known text changed.tests changed.change
 after_of known text (Err unsaid) = known
 
-abbrev pub line_change : Known → List ℕ → Result Change Unsaid
-line_change known text = change_of known.table known.hook known.names known.version (words_of text)
+abbrev pub line_change : Known → List ℕ → Result Changed Unsaid
+line_change known text = change_of known.table known.hook known.names known.version known.face (words_of text)
 
 -- What a line comes to.
 abbrev pub line_told : Known → List ℕ → LineTold

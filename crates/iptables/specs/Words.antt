@@ -20,8 +20,7 @@ has_escape text = list_any (λ byte. byte == 92) text
 -- a target that decides nothing
 abbrev pub is_passing : List ℕ → Bool
 is_passing word =
-    bytes_eq word (codes "LOG") || bytes_eq word (codes "NFLOG") || bytes_eq word (codes "ULOG") || bytes_eq word (codes "AUDIT")
-    || bytes_eq word (codes "TRACE")
+    bytes_eq word (codes "LOG") || bytes_eq word (codes "NFLOG") || bytes_eq word (codes "AUDIT") || bytes_eq word (codes "TRACE")
 
 -- why a line isn't said, in words
 abbrev pub why_text : Why → List ℕ
@@ -29,6 +28,7 @@ why_text why.Word = codes "unknown word"
 why_text why.Value = codes "no value"
 why_text why.Escape = codes "backslash"
 why_text why.Address = codes "no prefix"
+why_text why.Span = codes "no range"
 why_text why.Protocol = codes "unknown protocol"
 why_text why.Ports = codes "no ports"
 why_text why.State = codes "conntrack state"
@@ -41,3 +41,4 @@ why_text why.Chain = codes "no chain"
 why_text why.Policy = codes "no policy"
 why_text why.Many = codes "too many lines"
 why_text why.Deep = codes "jumps too deep"
+why_text why.Beside = codes "chains beside"

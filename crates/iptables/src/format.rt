@@ -5,20 +5,21 @@ ghost use Rattle.import_lines.specs.Import.{IsTold};
 ghost use Rattle.line_words.specs.Words.{words_of};
 ghost use Rattle.iptables.specs.Lines.{change_of, hook_name};
 ghost use Rattle.iptables.specs.Names.{name_number};
-ghost use Rattle.iptables.specs.Reading.{any_tests};
-ghost use Rattle.iptables.specs.Telling.{change_after, change_told, closing_by, declared_name, is_whole, line_after, line_told, list_of, listed, listed_told, name_behind, nothing_known, refused_why, save_closing, begun_text, with_list};
+ghost use Rattle.iptables.specs.Values.{any_tests};
+ghost use Rattle.iptables.specs.Telling.{change_after, change_told, closing_by, declared_name, is_whole, line_after, line_told, list_of, listed, listed_told, name_behind, nothing_known, refused_why, rules_of, save_closing, begun_text, with_list};
 
+use crate::faces::FaceName;
+use crate::fields::any_tests;
 use crate::lines::{Change, Hook, Table, change_of};
 use crate::names::Names;
-use crate::reading::any_tests;
-use crate::telling::{MOST_LINES, put_list, put_note, put_table, put_why};
+use crate::telling::{MOST_LINES, put_empty, put_list, put_note, put_table, put_why};
 use crate::why::Why;
 use crate::words::{first_word, is_named};
 use import_lines::{LineFormat, Told};
 use rule_model::IpVersion;
 use std::alloc::{AllocError, Global};
 use std::marker::Model;
-use written_chains::{ChainRule, Line, Refused, written_out};
+use written_chains::{ChainRule, Line, Refused, Target, Tests, written_out};
 
 /// How deep jumps are nested, the first chain counted.
 const DEPTH: usize = 32;
@@ -28,6 +29,8 @@ const DEPTH: usize = 32;
 pub struct Iptables {
     version: IpVersion,
     hook: Hook,
+    // By which packets come in; no name for any.
+    face: FaceName,
     table: Table,
     // The chains that are declared.
     names: Names,
@@ -44,17 +47,19 @@ impl Model for Iptables {
 
     ghost Value = { Known };
 
-    ghost view = { λ f. record { version = f.version; hook = f.hook; table = f.table; names = f.names; rules = f.rules.items; policy = f.policy; listed = f.listed } };
+    ghost view = { λ f. record { version = f.version; hook = f.hook; face = f.face; table = f.table; names = f.names; rules = f.rules.items; policy = f.policy; listed = f.listed } };
 }
 
 impl Iptables {
-    /// No line is read yet, of which the list of this chain is to be made. Takes no memory.
-    pub fn new(alloc: Global, version: IpVersion, hook: Hook) -> Iptables
-        ensures { result ≡ nothing_known version hook }
+    /// No line is read yet, of which the list of this chain is to be made, for packets that come in by this interface, or by
+    /// any where it has no name. Takes no memory.
+    pub fn new(alloc: Global, version: IpVersion, hook: Hook, face: FaceName) -> Iptables
+        ensures { result ≡ nothing_known version hook face }
     {
         Iptables {
             version,
             hook,
+            face,
             table: Table::Outside,
             names: Names::new(alloc),
             rules: Vec::new(alloc),
@@ -63,25 +68,41 @@ impl Iptables {
         }
     }
 
-    /// What a line changes. Err: why it isn't said, and the word.
-    fn change<'t>(&self, text: &'t [u8]) -> Result<Change, (Why, &'t [u8])>
-        ensures { MatchResult result (λ change. change_of self.now.table self.now.hook self.now.names self.now.version (words_of text.now) ≡ Ok change)
-            (λ unsaid. change_of self.now.table self.now.hook self.now.names self.now.version (words_of text.now) ≡ Err (record { why = unsaid.0; word = unsaid.1.now })) }
+    /// What a line changes; the tests of the rule that it adds are put there. Err: why it isn't said, and the word.
+    fn change<'t>(
+        &self,
+        alloc: Global,
+        tests: &mut Vec<Tests>,
+        text: &'t [u8],
+    ) -> Result<Result<Change, (Why, &'t [u8])>, AllocError>
+        requires { tests.old.items ≡ [] }
+        ensures { IfOk result (λ answer. MatchResult answer (λ change. change_of self.now.table self.now.hook self.now.names self.now.version self.now.face (words_of text.now) ≡ Ok (record { change = change; tests = tests.new.items }))
+            (λ unsaid. change_of self.now.table self.now.hook self.now.names self.now.version self.now.face (words_of text.now) ≡ Err (record { why = unsaid.0; word = unsaid.1.now }))) }
     {
-        change_of(self.table, self.hook, &self.names, self.version, text)
+        change_of(
+            alloc,
+            tests,
+            self.table,
+            self.hook,
+            &self.names,
+            self.version,
+            self.face.as_bytes(),
+            text,
+        )
     }
 
-    /// Makes a change, and tells it.
+    /// Makes a change, and tells it. A rule that it adds has these tests.
     fn make(
         &mut self,
         alloc: Global,
         change: Change,
+        tests: &[Tests],
         text: &[u8],
         into: &mut Vec<u8>,
     ) -> Result<Told, AllocError>
         requires { into.old.items ≡ [] }
         ensures told { IfOk result (λ answer. IsTold answer into.new.items (change_told self.old text.now change)) }
-        ensures said { IfOk result (λ answer. answer ≡ Told.Said → self.new ≡ change_after self.old text.now change) }
+        ensures said { IfOk result (λ answer. answer ≡ Told.Said → self.new ≡ change_after self.old text.now tests.now change) }
         ensures unsaid { IfOk result (λ answer. answer ≡ Told.Unsaid → self.new ≡ self.old) }
     {
         match change {
@@ -95,12 +116,16 @@ impl Iptables {
                 self.declare(alloc, policy, text)?;
                 Ok(Told::Said)
             }
-            Change::Adds(rule) => {
-                self.add(rule)?;
+            Change::Adds(chain, target) => {
+                self.add(chain, target, tests)?;
                 Ok(Told::Said)
             }
             Change::Notes => {
                 put_note(into, text)?;
+                Ok(Told::Said)
+            }
+            Change::Empty => {
+                put_empty(into, text)?;
                 Ok(Told::Said)
             }
             Change::Lists => self.list(alloc, into),
@@ -114,12 +139,11 @@ impl Iptables {
         self.table = table;
     }
 
-    /// A rule comes behind the others.
-    fn add(&mut self, rule: ChainRule) -> Result<(), AllocError>
-        ensures { OnOk result (self.new ≡ record self.old { rules = self.old.rules ++ rule ∷ [] }) }
+    /// Rules of a chain come behind the others, one for each of the tests.
+    fn add(&mut self, chain: usize, target: Target, tests: &[Tests]) -> Result<(), AllocError>
+        ensures { OnOk result (self.new ≡ record self.old { rules = self.old.rules ++ rules_of chain target tests.now }) }
     {
-        self.rules.push(rule)?;
-        Ok(())
+        put_rules(&mut self.rules, chain, target, tests)
     }
 
     /// The chain is declared that a line names.
@@ -129,7 +153,7 @@ impl Iptables {
         policy: Option<bool>,
         text: &[u8],
     ) -> Result<(), AllocError>
-        ensures { OnOk result (self.new ≡ change_after self.old text.now (Change.Declares policy)) }
+        ensures { OnOk result (self.new ≡ change_after self.old text.now [] (Change.Declares policy)) }
     {
         let name = declared_name(text);
         self.names.declare(alloc, name)?;
@@ -259,6 +283,25 @@ fn put_begun(into: &mut Vec<u8>, table: Table, text: &[u8]) -> Result<(), AllocE
     }
 }
 
+/// Puts the rules of a chain there that have one target, a rule for each of the tests.
+fn put_rules(
+    into: &mut Vec<ChainRule>,
+    chain: usize,
+    target: Target,
+    tests: &[Tests],
+) -> Result<(), AllocError>
+    ensures { OnOk result (into.new.items ≡ into.old.items ++ rules_of chain target tests.now) }
+{
+    for each in tests {
+        into.push(ChainRule {
+            chain,
+            tests: *each,
+            target,
+        })?;
+    }
+    Ok(())
+}
+
 /// Whether the list is written, and no other one is begun.
 fn is_whole(table: Table, listed: bool) -> bool
     ensures { result ≡ is_whole table listed }
@@ -291,8 +334,9 @@ impl LineFormat for Iptables {
     ghost closing = { save_closing };
 
     fn take(&mut self, alloc: Global, text: &[u8], into: &mut Vec<u8>) -> Result<Told, AllocError> {
-        match self.change(text) {
-            Ok(change) => self.make(alloc, change, text, into),
+        let mut tests = Vec::new(alloc);
+        match self.change(alloc, &mut tests, text)? {
+            Ok(change) => self.make(alloc, change, tests.as_slice(), text, into),
             Err(unsaid) => {
                 put_why(into, unsaid.0, unsaid.1)?;
                 Ok(Told::Unsaid)

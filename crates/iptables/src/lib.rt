@@ -13,7 +13,7 @@
 //! it says of jumps and returns is `written_chains`'.
 //!
 //! A line is first told what it is, by the table in which it stands (`lines`). A rule is read word by word, by what the word
-//! before it asks for (`reading`).
+//! before it asks for (`reading`); what a value says, behind `!` or not, is a list of tests (`values`).
 //!
 //! # Decided
 //! - **A word that isn't known isn't passed over**: it may say that the rule holds for some packets alone.
@@ -21,16 +21,37 @@
 //!   It is a comment.
 //! - **Rules of the two other chains that packets meet first have no part either**: nothing jumps to them. Those of all other
 //!   chains are read, whether this one leads to them or not: that isn't known before the last line.
+//! - **A rule that tests several values, or all but some, is several rules of one target**: one for each way to take a test of
+//!   each of its options, where these hold together.
+//! - **A list is for the packets of one interface, where one is asked for** (`faces`): a rule of that one tests nothing by it,
+//!   and a rule of another one holds no packet. Without one a rule that names an interface isn't said.
+//! - **A rule that holds no packet is a comment**, as one without a verdict.
 //! - **Lines are numbered by tens**, so that a rule that comes to stand between two of them shows in a comparison as one.
 #![tactic(auto)]
 
+mod blocks;
+mod faces;
+mod fields;
 mod format;
+mod laws;
 mod lines;
 mod names;
+mod passing;
+mod ports;
+mod protos;
 mod reading;
+mod spans;
+mod targets;
 mod telling;
+mod values;
 mod why;
 mod words;
 
+pub use faces::FaceName;
+pub use fields::any_tests;
 pub use format::Iptables;
+pub use laws::values_hold;
 pub use lines::Hook;
+pub use ports::has_ports;
+pub use protos::proto_named;
+pub use telling::{MOST_LINES, put_list};

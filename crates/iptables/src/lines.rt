@@ -1,15 +1,18 @@
 //! What a line is, by the table in which it stands.
 
-ghost use Rattle.std.specs.Prelude.{◌≡◌, Ok, Err, MatchResult};
+ghost use Rattle.std.specs.Prelude.{◌≡◌, [], Ok, Err, IfOk, MatchResult};
 ghost use Rattle.line_words.specs.Words.{words_of};
-ghost use Rattle.iptables.specs.Lines.{begins_with, chain_change, change_of, declared, hook_name, in_filter, in_other, is_other_hook, kind_of, outside, policy_of, rule_change, seen_change, word_change};
+ghost use Rattle.iptables.specs.Lines.{added, begins_with, chain_change, change_of, declared, hook_name, in_filter, has_quote, in_other, is_ambiguous, is_other_hook, kind_of, names_passing, names_verdict, outside, plain, policy_of, remark_change, rule_change, target_change, word_change};
 
+use crate::fields::any_tests;
 use crate::names::Names;
-use crate::reading::{Seen, passes, read_rule};
+use crate::passing::passes;
+use crate::reading::read_rule;
 use crate::why::Why;
 use crate::words::{first_word, is_named};
 use rule_model::IpVersion;
-use written_chains::ChainRule;
+use std::alloc::{AllocError, Global};
+use written_chains::{Target, Tests};
 
 /// A chain that packets meet first.
 #[derive(Clone, Copy, Debug, PartialEq, Eq)]
@@ -49,8 +52,10 @@ pub(crate) enum Table {
 /// What the first word of a line says that it is.
 #[derive(Clone, Copy, Debug, PartialEq, Eq)]
 pub(crate) enum Kind {
-    /// A comment, or a line of another table.
+    /// A line of another table.
     Nothing,
+    /// A comment.
+    Remark,
     /// The beginning of a table, or its end.
     Begins(Table),
     /// A chain and its policy.
@@ -71,32 +76,41 @@ pub(crate) enum Change {
     Begins(Table),
     /// A chain is declared, of this policy if it has one.
     Declares(Option<bool>),
-    /// A rule comes behind the others.
-    Adds(ChainRule),
+    /// Rules of the chain of this number come behind the others, all of one target.
+    Adds(usize, Target),
     /// A rule that decides nothing.
     Notes,
+    /// A rule that holds no packet.
+    Empty,
     /// All rules are there.
     Lists,
 }
 
-/// What a line changes. Err: why it isn't said, and the word.
+/// What a line changes; the tests of the rule that it adds are put there. Err: why it isn't said, and the word.
 pub(crate) fn change_of<'t>(
+    alloc: Global,
+    tests: &mut Vec<Tests>,
     table: Table,
     hook: Hook,
     names: &Names,
     version: IpVersion,
+    face: &[u8],
     text: &'t [u8],
-) -> Result<Change, (Why, &'t [u8])>
-    ensures { MatchResult result (λ change. change_of table hook names.now version (words_of text.now) ≡ Ok change)
-        (λ unsaid. change_of table hook names.now version (words_of text.now) ≡ Err (record { why = unsaid.0; word = unsaid.1.now })) }
+) -> Result<Result<Change, (Why, &'t [u8])>, AllocError>
+    requires { tests.old.items ≡ [] }
+    ensures { IfOk result (λ answer. MatchResult answer (λ change. change_of table hook names.now version face.now (words_of text.now) ≡ Ok (record { change = change; tests = tests.new.items }))
+        (λ unsaid. change_of table hook names.now version face.now (words_of text.now) ≡ Err (record { why = unsaid.0; word = unsaid.1.now }))) }
 {
     match first_word(text) {
-        None => Ok(Change::Nothing),
+        None => Ok(Ok(Change::Nothing)),
         Some((first, rest)) => word_change(
+            alloc,
+            tests,
             kind_of(table, first),
             hook,
             names,
             version,
+            face,
             first,
             rest,
         ),
@@ -105,23 +119,44 @@ pub(crate) fn change_of<'t>(
 
 /// The same of a line that begins with this word.
 fn word_change<'t>(
+    alloc: Global,
+    tests: &mut Vec<Tests>,
     kind: Kind,
     hook: Hook,
     names: &Names,
     version: IpVersion,
+    face: &[u8],
     first: &'t [u8],
     rest: &'t [u8],
-) -> Result<Change, (Why, &'t [u8])>
-    ensures { MatchResult result (λ change. word_change kind hook names.now version first.now (words_of rest.now) ≡ Ok change)
-        (λ unsaid. word_change kind hook names.now version first.now (words_of rest.now) ≡ Err (record { why = unsaid.0; word = unsaid.1.now })) }
+) -> Result<Result<Change, (Why, &'t [u8])>, AllocError>
+    requires { tests.old.items ≡ [] }
+    ensures { IfOk result (λ answer. MatchResult answer (λ change. word_change kind hook names.now version face.now first.now (words_of rest.now) ≡ Ok (record { change = change; tests = tests.new.items }))
+        (λ unsaid. word_change kind hook names.now version face.now first.now (words_of rest.now) ≡ Err (record { why = unsaid.0; word = unsaid.1.now }))) }
 {
     match kind {
-        Kind::Nothing => Ok(Change::Nothing),
-        Kind::Begins(table) => Ok(Change::Begins(table)),
-        Kind::Declares => declared(first, rest),
-        Kind::Rule => rule_change(hook, names, version, first, rest),
-        Kind::Lists => Ok(Change::Lists),
-        Kind::Unknown => Err((Why::Word, first)),
+        Kind::Nothing => Ok(Ok(Change::Nothing)),
+        Kind::Remark => Ok(remark_change(rest)),
+        Kind::Begins(table) => Ok(Ok(Change::Begins(table))),
+        Kind::Declares => Ok(declared(first, rest)),
+        Kind::Rule => { rule_change(alloc, tests, hook, names, version, face, first, rest) }
+        Kind::Lists => Ok(Ok(Change::Lists)),
+        Kind::Unknown => Ok(Err((Why::Word, first))),
+    }
+}
+
+/// A comment, from the words behind its first one. `iptables-save` says by one that it doesn't print all chains of a table.
+fn remark_change(rest: &[u8]) -> Result<Change, (Why, &[u8])>
+    ensures { MatchResult result (λ change. remark_change (words_of rest.now) ≡ plain change)
+        (λ unsaid. remark_change (words_of rest.now) ≡ Err (record { why = unsaid.0; word = unsaid.1.now })) }
+{
+    match first_word(rest) {
+        None => Ok(Change::Nothing),
+        Some((word, _)) => {
+            if is_named(word, b"Table") {
+                return Err((Why::Beside, word));
+            }
+            Ok(Change::Nothing)
+        }
     }
 }
 
@@ -130,7 +165,7 @@ fn kind_of(table: Table, first: &[u8]) -> Kind
     ensures { result ≡ kind_of table first.now }
 {
     if begins_with(first, b'#') {
-        return Kind::Nothing;
+        return Kind::Remark;
     }
     match table {
         Table::Outside => outside(first),
@@ -186,16 +221,56 @@ fn in_filter(first: &[u8]) -> Kind
 
 /// A chain that is declared, from the words behind its name.
 fn declared<'t>(first: &'t [u8], rest: &'t [u8]) -> Result<Change, (Why, &'t [u8])>
-    ensures { MatchResult result (λ change. declared first.now (words_of rest.now) ≡ Ok change)
+    ensures { MatchResult result (λ change. declared first.now (words_of rest.now) ≡ plain change)
         (λ unsaid. declared first.now (words_of rest.now) ≡ Err (record { why = unsaid.0; word = unsaid.1.now })) }
 {
     match first_word(rest) {
         None => Err((Why::Value, first)),
-        Some((word, _)) => match policy_of(word) {
-            Some(policy) => Ok(Change::Declares(policy)),
-            None => Err((Why::Policy, word)),
-        },
+        Some((word, _)) => {
+            if is_ambiguous(first) {
+                return Err((Why::Target, first));
+            }
+            match policy_of(word) {
+                Some(policy) => Ok(Change::Declares(policy)),
+                None => Err((Why::Policy, word)),
+            }
+        }
     }
+}
+
+/// Whether a chain is declared that has the name of a target, as `nft` makes them, but `iptables` doesn't, since jumps to it
+/// look like that target, or a quote in its name, which looks like the end of a text.
+fn is_ambiguous(first: &[u8]) -> bool
+    ensures { result ≡ is_ambiguous first.now }
+{
+    has_quote(first) || names_verdict(first) || names_passing(first)
+}
+
+/// Whether a quote stands in a text.
+fn has_quote(text: &[u8]) -> bool
+    ensures { result ≡ has_quote text.now }
+{
+    text.iter().any(|byte| *byte == b'"')
+}
+
+/// Whether a chain is declared that has the name of a target that decides.
+fn names_verdict(first: &[u8]) -> bool
+    ensures { result ≡ names_verdict first.now }
+{
+    is_named(first, b":ACCEPT")
+        || is_named(first, b":DROP")
+        || is_named(first, b":REJECT")
+        || is_named(first, b":RETURN")
+}
+
+/// Whether a chain is declared that has the name of a target behind which a packet goes on.
+fn names_passing(first: &[u8]) -> bool
+    ensures { result ≡ names_passing first.now }
+{
+    is_named(first, b":LOG")
+        || is_named(first, b":NFLOG")
+        || is_named(first, b":AUDIT")
+        || is_named(first, b":TRACE")
 }
 
 /// A policy, or that a chain has none.
@@ -215,24 +290,30 @@ fn policy_of(word: &[u8]) -> Option<Option<bool>>
 
 /// A rule, from the words behind the first one.
 fn rule_change<'t>(
+    alloc: Global,
+    tests: &mut Vec<Tests>,
     hook: Hook,
     names: &Names,
     version: IpVersion,
+    face: &[u8],
     first: &'t [u8],
     rest: &'t [u8],
-) -> Result<Change, (Why, &'t [u8])>
-    ensures { MatchResult result (λ change. rule_change hook names.now version first.now (words_of rest.now) ≡ Ok change)
-        (λ unsaid. rule_change hook names.now version first.now (words_of rest.now) ≡ Err (record { why = unsaid.0; word = unsaid.1.now })) }
+) -> Result<Result<Change, (Why, &'t [u8])>, AllocError>
+    requires { tests.old.items ≡ [] }
+    ensures { IfOk result (λ answer. MatchResult answer (λ change. rule_change hook names.now version face.now first.now (words_of rest.now) ≡ Ok (record { change = change; tests = tests.new.items }))
+        (λ unsaid. rule_change hook names.now version face.now first.now (words_of rest.now) ≡ Err (record { why = unsaid.0; word = unsaid.1.now }))) }
 {
     match first_word(rest) {
-        None => Err((Why::Value, first)),
+        None => Ok(Err((Why::Value, first))),
         Some((chain, behind)) => {
             if is_other_hook(hook, chain) {
-                return Ok(Change::Nothing);
+                return Ok(Ok(Change::Nothing));
             }
             match names.number_of(chain) {
-                None => Err((Why::Chain, chain)),
-                Some(number) => chain_change(number, names, version, chain, behind),
+                None => Ok(Err((Why::Chain, chain))),
+                Some(number) => {
+                    chain_change(alloc, tests, number, names, version, face, chain, behind)
+                }
             }
         }
     }
@@ -251,35 +332,51 @@ fn is_other_hook(hook: Hook, chain: &[u8]) -> bool
 
 /// A rule of the chain of this number, from the words behind its name.
 fn chain_change<'t>(
+    alloc: Global,
+    tests: &mut Vec<Tests>,
     number: usize,
     names: &Names,
     version: IpVersion,
+    face: &[u8],
     chain: &'t [u8],
     behind: &'t [u8],
-) -> Result<Change, (Why, &'t [u8])>
-    ensures { MatchResult result (λ change. chain_change number names.now version chain.now (words_of behind.now) ≡ Ok change)
-        (λ unsaid. chain_change number names.now version chain.now (words_of behind.now) ≡ Err (record { why = unsaid.0; word = unsaid.1.now })) }
+) -> Result<Result<Change, (Why, &'t [u8])>, AllocError>
+    requires { tests.old.items ≡ [] }
+    ensures { IfOk result (λ answer. MatchResult answer (λ change. chain_change number names.now version face.now chain.now (words_of behind.now) ≡ Ok (record { change = change; tests = tests.new.items }))
+        (λ unsaid. chain_change number names.now version face.now chain.now (words_of behind.now) ≡ Err (record { why = unsaid.0; word = unsaid.1.now }))) }
 {
     if passes(behind) {
-        return Ok(Change::Notes);
+        return Ok(Ok(Change::Notes));
     }
-    match read_rule(behind, names, version) {
-        Ok(seen) => seen_change(number, &seen, chain),
-        Err(unsaid) => Err(unsaid),
+    tests.push(any_tests())?;
+    match read_rule(alloc, tests, behind, names, version, face)? {
+        Ok(seen) => Ok(target_change(number, seen.target, tests.as_slice(), chain)),
+        Err(unsaid) => Ok(Err(unsaid)),
     }
 }
 
-/// A rule of the chain of this number and name, by what its words said.
-fn seen_change<'t>(number: usize, seen: &Seen, chain: &'t [u8]) -> Result<Change, (Why, &'t [u8])>
-    ensures { MatchResult result (λ change. seen_change number seen.now.tests seen.now.target chain.now ≡ Ok change)
-        (λ unsaid. seen_change number seen.now.tests seen.now.target chain.now ≡ Err (record { why = unsaid.0; word = unsaid.1.now })) }
+/// A rule of the chain of this number and name, by its target and its tests.
+fn target_change<'t>(
+    number: usize,
+    target: Option<Target>,
+    tests: &[Tests],
+    chain: &'t [u8],
+) -> Result<Change, (Why, &'t [u8])>
+    ensures { MatchResult result (λ change. target_change number target tests.now chain.now ≡ Ok change)
+        (λ unsaid. target_change number target tests.now chain.now ≡ Err (record { why = unsaid.0; word = unsaid.1.now })) }
 {
-    match seen.target {
-        Some(target) => Ok(Change::Adds(ChainRule {
-            chain: number,
-            tests: seen.tests,
-            target,
-        })),
+    match target {
+        Some(found) => Ok(added(number, found, tests)),
         None => Err((Why::Target, chain)),
     }
+}
+
+/// What a rule of these tests changes: nothing, where there are none, since it holds no packet.
+fn added(number: usize, target: Target, tests: &[Tests]) -> Change
+    ensures { result ≡ added number target tests.now }
+{
+    if tests.is_empty() {
+        return Change::Empty;
+    }
+    Change::Adds(number, target)
 }

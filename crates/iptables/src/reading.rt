@@ -1,33 +1,30 @@
 //! A rule, word by word.
 
-ghost use Rattle.std.specs.Prelude.{◌≡◌, ◌<◌, [], Ok, Err, IfSome, MatchResult, false, length};
-ghost use Rattle.line_words.specs.Notations.{notation_for};
+ghost use Rattle.std.specs.Prelude.{◌≡◌, ◌*◌, [], ◌∷◌, Ok, Err, IfOk, MatchResult, nat_le};
 ghost use Rattle.line_words.specs.Words.{words_of};
-ghost use Rattle.line_words.specs.Kinds as kinds;
-ghost use Rattle.iptables.specs.Reading.{any_tests, colon_ports, end_of, expecting, first_colon, first_seen, has_ports, is_jump, jump_to, of_modules, option_of, pair_of, passes, passes_at, port_pair, proto_named, proto_numbered, proto_of, read_comment, read_dport, read_dst, read_module, read_option, read_proto, read_quoted, read_sport, read_src, read_target, read_word, read_words, step, still_quoted, target_of, testing, why_no_module, why_no_option};
+ghost use Rattle.iptables.specs.Reading.{Read, behind_value, expecting, face_field, few_tests, field_of, first_seen, is_end, is_module, may_end, negated_by, nothing_read, option_by, part_of, port_field, read_by, read_comment, read_module, read_negated, read_option, read_quoted, read_target, read_value, read_word, read_words, step, target_of, valued, why_no_module, why_no_option, why_not};
+ghost use Rattle.iptables.specs.Values.{any_tests, met_with, value_said};
 
+use crate::fields::{Ends, Side, met_with};
 use crate::names::Names;
+use crate::targets::target_of;
+use crate::values::{Field, proto_behind, value_said};
 use crate::why::Why;
-use crate::words::{ends_quote, first_word, has_escape, is_named, is_passing, opens_quote};
-use line_words::{WordFault, port_of, prefix_of, protocol_of};
-use rule_model::{IpVersion, Ports, Prefix};
+use crate::words::{ends_quote, first_word, has_escape, is_named, opens_quote};
+use rule_model::IpVersion;
+use std::alloc::{AllocError, Global};
 use written_chains::{Target, Tests};
 
-/// What the next word of a rule is to be.
+/// The most tests of a rule.
+const MOST_TESTS: usize = 4095;
+
+/// A word of a rule that is no value.
 #[derive(Clone, Copy, Debug, PartialEq, Eq)]
-pub(crate) enum Expects {
+pub(crate) enum Part {
     /// One that says what it is.
     Option,
-    /// A sender's prefix.
-    Src,
-    /// A receiver's.
-    Dst,
-    /// A protocol.
-    Proto,
-    /// A sender's ports.
-    Sport,
-    /// A receiver's.
-    Dport,
+    /// The same behind `!`.
+    Negated,
     /// The name of what the words behind it are of.
     Module,
     /// A comment, in quotes if it has several words.
@@ -40,25 +37,24 @@ pub(crate) enum Expects {
     Skipped,
 }
 
-/// What the words of a rule have said so far.
+/// What the next word of a rule is to be.
+#[derive(Clone, Copy, Debug, PartialEq, Eq)]
+pub(crate) enum Expects {
+    /// This.
+    Says(Part),
+    /// A value that this field is tested for.
+    Value(Field),
+}
+
+/// What the words of a rule have said so far, but for its tests.
 #[derive(Clone, Copy, Debug, PartialEq, Eq)]
 pub(crate) struct Seen {
     pub(crate) expects: Expects,
-    pub(crate) tests: Tests,
+    // Whether the value that is to come is one that packets don't have.
+    pub(crate) negated: bool,
+    // The protocol of the packets that the rule holds, if it is one.
+    pub(crate) proto: Option<u8>,
     pub(crate) target: Option<Target>,
-}
-
-/// Tests that hold each packet.
-pub(crate) fn any_tests() -> Tests
-    ensures { result ≡ any_tests }
-{
-    Tests {
-        src: Prefix::any(),
-        dst: Prefix::any(),
-        proto: None,
-        sport: Ports::any(),
-        dport: Ports::any(),
-    }
 }
 
 /// Nothing is said yet.
@@ -66,70 +62,26 @@ fn first_seen() -> Seen
     ensures { result ≡ first_seen }
 {
     Seen {
-        expects: Expects::Option,
-        tests: any_tests(),
+        expects: Expects::Says(Part::Option),
+        negated: false,
+        proto: None,
         target: None,
     }
 }
 
-/// Whether a rule decides nothing: it has no target, or one behind which a packet goes on. It is told by all words behind
-/// the name of its chain.
-pub(crate) fn passes(text: &[u8]) -> bool
-    ensures { result ≡ passes false (words_of text.now) }
-{
-    let mut rest = text;
-    let mut quoted = false;
-    'words: loop {
-        let (word, behind) = match first_word(rest) {
-            Some(found) => found,
-            None => return true,
-        };
-        if has_escape(word) {
-            return false;
-        }
-        if !quoted && is_jump(word) {
-            return passes_at(behind);
-        }
-        quoted = still_quoted(quoted, word);
-        rest = behind;
-    }
-}
-
-/// Whether a word says that a target follows.
-fn is_jump(word: &[u8]) -> bool
-    ensures { result ≡ is_jump word.now }
-{
-    is_named(word, b"-j") || is_named(word, b"-g")
-}
-
-/// Whether a text in quotes goes on behind a word.
-fn still_quoted(quoted: bool, word: &[u8]) -> bool
-    ensures { result ≡ still_quoted quoted word.now }
-{
-    if quoted {
-        return !ends_quote(word);
-    }
-    opens_quote(word)
-}
-
-/// Whether the target that stands first in a text decides nothing.
-fn passes_at(text: &[u8]) -> bool
-    ensures { result ≡ passes_at (words_of text.now) }
-{
-    match first_word(text) {
-        Some((word, _)) => is_passing(word),
-        None => false,
-    }
-}
-
-/// Reads all words of a rule behind the name of its chain. Err: why it isn't said, and the word.
+/// Reads all words of a rule behind the name of its chain, and what it tests: a packet that one of the tests holds is one
+/// that the rule holds. Err: why it isn't said, and the word.
 pub(crate) fn read_rule<'t>(
+    alloc: Global,
+    tests: &mut Vec<Tests>,
     text: &'t [u8],
     names: &Names,
     version: IpVersion,
-) -> Result<Seen, (Why, &'t [u8])>
-    ensures { MatchResult result (λ seen. read_words version names.now first_seen [] (words_of text.now) ≡ Ok seen)
-        (λ unsaid. read_words version names.now first_seen [] (words_of text.now) ≡ Err (record { why = unsaid.0; word = unsaid.1.now })) }
+    face: &[u8],
+) -> Result<Result<Seen, (Why, &'t [u8])>, AllocError>
+    requires { tests.old.items ≡ any_tests ∷ [] }
+    ensures { IfOk result (λ answer. MatchResult answer (λ seen. read_words version face.now names.now nothing_read [] (words_of text.now) ≡ Ok (record { seen = seen; tests = tests.new.items }))
+        (λ unsaid. read_words version face.now names.now nothing_read [] (words_of text.now) ≡ Err (record { why = unsaid.0; word = unsaid.1.now }))) }
 {
     let mut seen = first_seen();
     let mut rest = text;
@@ -137,36 +89,44 @@ pub(crate) fn read_rule<'t>(
     'words: loop {
         let found = match first_word(rest) {
             Some(found) => found,
-            None => match end_of(&seen) {
-                Ok(()) => return Ok(seen),
-                Err(why) => return Err((why, last)),
-            },
+            None => {
+                if may_end(seen.expects) {
+                    return Ok(Ok(seen));
+                }
+                return Ok(Err((Why::Value, last)));
+            }
         };
-        seen = match read_word(&seen, found.0, names, version) {
+        seen = match read_word(alloc, &seen, tests, found.0, names, version, face)? {
             Ok(next) => next,
-            Err(why) => return Err((why, found.0)),
+            Err(why) => return Ok(Err((why, found.0))),
         };
         last = found.0;
         rest = found.1;
     }
 }
 
-/// Where a rule may end.
-fn end_of(seen: &Seen) -> Result<(), Why>
-    ensures { result ≡ end_of seen.now.expects }
+/// Whether a rule may end where this is to come.
+fn may_end(expects: Expects) -> bool
+    ensures { result ≡ may_end expects }
 {
-    match seen.expects {
-        Expects::Option => Ok(()),
-        Expects::Src => Err(Why::Value),
-        Expects::Dst => Err(Why::Value),
-        Expects::Proto => Err(Why::Value),
-        Expects::Sport => Err(Why::Value),
-        Expects::Dport => Err(Why::Value),
-        Expects::Module => Err(Why::Value),
-        Expects::Comment => Err(Why::Value),
-        Expects::Quoted => Err(Why::Value),
-        Expects::Target => Err(Why::Value),
-        Expects::Skipped => Err(Why::Value),
+    match expects {
+        Expects::Says(part) => is_end(part),
+        Expects::Value(_) => false,
+    }
+}
+
+/// The same of a word that is no value.
+fn is_end(part: Part) -> bool
+    ensures { result ≡ is_end part }
+{
+    match part {
+        Part::Option => true,
+        Part::Negated => false,
+        Part::Module => false,
+        Part::Comment => false,
+        Part::Quoted => false,
+        Part::Target => false,
+        Part::Skipped => false,
     }
 }
 
@@ -174,91 +134,194 @@ fn end_of(seen: &Seen) -> Result<(), Why>
 fn expecting(seen: &Seen, expects: Expects) -> Seen
     ensures { result ≡ expecting seen.now expects }
 {
-    Seen {
-        expects,
-        tests: seen.tests,
-        target: seen.target,
-    }
-}
-
-/// The same with other tests, where one that says what it is is to come.
-fn testing(seen: &Seen, tests: Tests) -> Seen
-    ensures { result ≡ testing seen.now tests }
-{
-    Seen {
-        expects: Expects::Option,
-        tests,
-        target: seen.target,
-    }
+    Seen { expects, ..*seen }
 }
 
 /// Reads a word, which has no backslash.
-fn read_word(seen: &Seen, word: &[u8], names: &Names, version: IpVersion) -> Result<Seen, Why>
-    ensures { result ≡ read_word version names.now seen.now word.now }
+fn read_word(
+    alloc: Global,
+    seen: &Seen,
+    tests: &mut Vec<Tests>,
+    word: &[u8],
+    names: &Names,
+    version: IpVersion,
+    face: &[u8],
+) -> Result<Result<Seen, Why>, AllocError>
+    ensures { IfOk result (λ answer. MatchResult answer (λ next. read_word version face.now names.now (record { seen = seen.now; tests = tests.old.items }) word.now ≡ Ok (record { seen = next; tests = tests.new.items }))
+        (λ reason. read_word version face.now names.now (record { seen = seen.now; tests = tests.old.items }) word.now ≡ Err reason)) }
 {
     if has_escape(word) {
-        return Err(Why::Escape);
+        return Ok(Err(Why::Escape));
     }
-    step(seen, word, names, version)
+    match seen.expects {
+        Expects::Says(part) => Ok(step(seen, word, names, face, part)),
+        Expects::Value(field) => read_value(alloc, seen, tests, word, version, face, field),
+    }
 }
 
-/// Reads a word, by what it is to be.
-fn step(seen: &Seen, word: &[u8], names: &Names, version: IpVersion) -> Result<Seen, Why>
-    ensures { result ≡ step version names.now seen.now word.now seen.now.expects }
+/// Reads the value of an option.
+fn read_value(
+    alloc: Global,
+    seen: &Seen,
+    tests: &mut Vec<Tests>,
+    word: &[u8],
+    version: IpVersion,
+    face: &[u8],
+    field: Field,
+) -> Result<Result<Seen, Why>, AllocError>
+    ensures { IfOk result (λ answer. MatchResult answer (λ next. read_value version face.now (record { seen = seen.now; tests = tests.old.items }) field word.now ≡ Ok (record { seen = next; tests = tests.new.items }))
+        (λ reason. read_value version face.now (record { seen = seen.now; tests = tests.old.items }) field word.now ≡ Err reason)) }
 {
-    match seen.expects {
-        Expects::Option => read_option(seen, word),
-        Expects::Src => read_src(seen, word, version),
-        Expects::Dst => read_dst(seen, word, version),
-        Expects::Proto => read_proto(seen, word),
-        Expects::Sport => read_sport(seen, word),
-        Expects::Dport => read_dport(seen, word),
-        Expects::Module => read_module(seen, word),
-        Expects::Comment => Ok(read_comment(seen, word)),
-        Expects::Quoted => Ok(read_quoted(seen, word)),
-        Expects::Target => read_target(seen, word, names),
-        Expects::Skipped => Ok(expecting(seen, Expects::Option)),
+    match value_said(alloc, version, face, seen.proto, field, seen.negated, word)? {
+        Ok(said) => {
+            if !few_tests(tests.len(), said.len()) {
+                return Ok(Err(Why::Many));
+            }
+            *tests = met_with(alloc, tests.as_slice(), said.as_slice())?;
+            Ok(Ok(behind_value(seen, field, word)))
+        }
+        Err(why) => Ok(Err(why)),
+    }
+}
+
+/// Whether there are no more pairs of so many tests than a rule may have.
+fn few_tests(tests: usize, said: usize) -> bool
+    ensures { result ≡ nat_le (tests * said) 4095 }
+{
+    match tests.checked_mul(said) {
+        Some(pairs) => pairs <= MOST_TESTS,
+        None => false,
+    }
+}
+
+/// The same behind a value.
+fn behind_value(seen: &Seen, field: Field, word: &[u8]) -> Seen
+    ensures { result ≡ behind_value seen.now field word.now }
+{
+    Seen {
+        expects: Expects::Says(Part::Option),
+        negated: false,
+        proto: proto_behind(seen.proto, field, seen.negated, word),
+        target: seen.target,
+    }
+}
+
+/// Reads a word that is no value, by what it is to be.
+fn step(seen: &Seen, word: &[u8], names: &Names, face: &[u8], part: Part) -> Result<Seen, Why>
+    ensures { result ≡ step face.now names.now seen.now word.now part }
+{
+    match part {
+        Part::Option => read_option(seen, word, face),
+        Part::Negated => read_negated(seen, word, face),
+        Part::Module => read_module(seen, word),
+        Part::Comment => Ok(read_comment(seen, word)),
+        Part::Quoted => Ok(read_quoted(seen, word)),
+        Part::Target => read_target(seen, word, names),
+        Part::Skipped => Ok(expecting(seen, Expects::Says(Part::Option))),
     }
 }
 
 /// Reads a word that says what it is.
-fn read_option(seen: &Seen, word: &[u8]) -> Result<Seen, Why>
-    ensures { result ≡ read_option seen.now word.now }
+fn read_option(seen: &Seen, word: &[u8], face: &[u8]) -> Result<Seen, Why>
+    ensures { result ≡ read_option face.now seen.now word.now }
 {
-    Ok(expecting(seen, option_of(word)?))
-}
-
-/// What a word that says what it is asks for.
-fn option_of(word: &[u8]) -> Result<Expects, Why>
-    ensures { result ≡ option_of word.now }
-{
-    if is_named(word, b"-s") {
-        Ok(Expects::Src)
-    } else if is_named(word, b"-d") {
-        Ok(Expects::Dst)
-    } else if is_named(word, b"-p") {
-        Ok(Expects::Proto)
-    } else if is_named(word, b"-m") {
-        Ok(Expects::Module)
-    } else if is_named(word, b"-j") {
-        Ok(Expects::Target)
-    } else {
-        of_modules(word)
+    match field_of(word, face) {
+        Some(field) => Ok(expecting(seen, Expects::Value(field))),
+        None => match part_of(word) {
+            Ok(part) => Ok(expecting(seen, Expects::Says(part))),
+            Err(why) => Err(why),
+        },
     }
 }
 
-/// The same of the words that are not every rule's.
-fn of_modules(word: &[u8]) -> Result<Expects, Why>
-    ensures { result ≡ of_modules word.now }
+/// Reads one behind `!`.
+fn read_negated(seen: &Seen, word: &[u8], face: &[u8]) -> Result<Seen, Why>
+    ensures { result ≡ read_negated face.now seen.now word.now }
+{
+    match field_of(word, face) {
+        Some(field) => Ok(Seen {
+            expects: Expects::Value(field),
+            negated: true,
+            ..*seen
+        }),
+        None => Err(why_not(part_of(word))),
+    }
+}
+
+/// Why a word isn't said behind `!` that tests no field.
+fn why_not(part: Result<Part, Why>) -> Why
+    ensures { result ≡ why_not part }
+{
+    match part {
+        Ok(_) => Why::Negation,
+        Err(why) => why,
+    }
+}
+
+/// The field that a word tests, where packets come in by this interface, or by any.
+fn field_of(word: &[u8], face: &[u8]) -> Option<Field>
+    ensures { result ≡ field_of face.now word.now }
+{
+    if is_named(word, b"-s") {
+        Some(Field::Block(Side::Src))
+    } else if is_named(word, b"-d") {
+        Some(Field::Block(Side::Dst))
+    } else if is_named(word, b"--src-range") {
+        Some(Field::Span(Side::Src))
+    } else if is_named(word, b"--dst-range") {
+        Some(Field::Span(Side::Dst))
+    } else if is_named(word, b"-p") {
+        Some(Field::Proto)
+    } else if is_named(word, b"-i") {
+        face_field(face)
+    } else {
+        port_field(word)
+    }
+}
+
+/// The interface, where the list is for the packets of one.
+fn face_field(face: &[u8]) -> Option<Field>
+    ensures { result ≡ face_field face.now }
+{
+    if face.is_empty() {
+        return None;
+    }
+    Some(Field::Face)
+}
+
+/// The ports that a word tests.
+fn port_field(word: &[u8]) -> Option<Field>
+    ensures { result ≡ port_field word.now }
 {
     if is_named(word, b"--sport") {
-        Ok(Expects::Sport)
+        Some(Field::Ports(Ends::Of(Side::Src), false))
     } else if is_named(word, b"--dport") {
-        Ok(Expects::Dport)
+        Some(Field::Ports(Ends::Of(Side::Dst), false))
+    } else if is_named(word, b"--sports") {
+        Some(Field::Ports(Ends::Of(Side::Src), true))
+    } else if is_named(word, b"--dports") {
+        Some(Field::Ports(Ends::Of(Side::Dst), true))
+    } else if is_named(word, b"--ports") {
+        Some(Field::Ports(Ends::Either, true))
+    } else {
+        None
+    }
+}
+
+/// What a word asks for that tests no field.
+fn part_of(word: &[u8]) -> Result<Part, Why>
+    ensures { result ≡ part_of word.now }
+{
+    if is_named(word, b"!") {
+        Ok(Part::Negated)
+    } else if is_named(word, b"-m") {
+        Ok(Part::Module)
+    } else if is_named(word, b"-j") {
+        Ok(Part::Target)
     } else if is_named(word, b"--comment") {
-        Ok(Expects::Comment)
+        Ok(Part::Comment)
     } else if is_named(word, b"--reject-with") {
-        Ok(Expects::Skipped)
+        Ok(Part::Skipped)
     } else {
         Err(why_no_option(word))
     }
@@ -268,196 +331,31 @@ fn of_modules(word: &[u8]) -> Result<Expects, Why>
 fn why_no_option(word: &[u8]) -> Why
     ensures { result ≡ why_no_option word.now }
 {
-    if is_named(word, b"!") {
-        Why::Negation
-    } else if is_named(word, b"-i") || is_named(word, b"-o") {
-        Why::Interface
-    } else {
-        Why::Word
+    if is_named(word, b"-i") || is_named(word, b"-o") {
+        return Why::Interface;
     }
-}
-
-/// Reads a sender's prefix.
-fn read_src(seen: &Seen, word: &[u8], version: IpVersion) -> Result<Seen, Why>
-    ensures { result ≡ read_src seen.now ((notation_for version).block word.now) }
-{
-    match prefix_of(word, version) {
-        Ok(src) => Ok(testing(seen, Tests { src, ..seen.tests })),
-        Err(_) => Err(Why::Address),
-    }
-}
-
-/// Reads a receiver's prefix.
-fn read_dst(seen: &Seen, word: &[u8], version: IpVersion) -> Result<Seen, Why>
-    ensures { result ≡ read_dst seen.now ((notation_for version).block word.now) }
-{
-    match prefix_of(word, version) {
-        Ok(dst) => Ok(testing(seen, Tests { dst, ..seen.tests })),
-        Err(_) => Err(Why::Address),
-    }
-}
-
-/// Reads a protocol.
-fn read_proto(seen: &Seen, word: &[u8]) -> Result<Seen, Why>
-    ensures { result ≡ read_proto seen.now (proto_of word.now) }
-{
-    match proto_of(word) {
-        Some(proto) => Ok(testing(
-            seen,
-            Tests {
-                proto: Some(proto),
-                ..seen.tests
-            },
-        )),
-        None => Err(Why::Protocol),
-    }
-}
-
-/// A protocol of a name, or of a number above 0, which stands for any.
-fn proto_of(word: &[u8]) -> Option<u8>
-    ensures { result ≡ proto_of word.now }
-{
-    match proto_named(word) {
-        Some(proto) => Some(proto),
-        None => proto_numbered(word),
-    }
-}
-
-/// A protocol of a name that scripts don't have.
-fn proto_named(word: &[u8]) -> Option<u8>
-    ensures { result ≡ proto_named word.now }
-{
-    if is_named(word, b"ipv6-icmp") || is_named(word, b"icmpv6") {
-        Some(58)
-    } else if is_named(word, b"igmp") {
-        Some(2)
-    } else if is_named(word, b"gre") {
-        Some(47)
-    } else if is_named(word, b"esp") {
-        Some(50)
-    } else if is_named(word, b"ah") {
-        Some(51)
-    } else if is_named(word, b"sctp") {
-        Some(132)
-    } else {
-        None
-    }
-}
-
-/// A protocol as scripts have it, but no 0.
-fn proto_numbered(word: &[u8]) -> Option<u8>
-    ensures { result ≡ proto_numbered (kinds.proto_of word.now) }
-{
-    match protocol_of(word) {
-        Ok(proto) => nonzero(proto),
-        Err(_) => None,
-    }
-}
-
-/// A number but 0.
-fn nonzero(proto: u8) -> Option<u8>
-    ensures { result ≡ proto_numbered (Ok proto) }
-{
-    if proto == 0 {
-        return None;
-    }
-    Some(proto)
-}
-
-/// Reads a sender's ports.
-fn read_sport(seen: &Seen, word: &[u8]) -> Result<Seen, Why>
-    ensures { result ≡ read_sport seen.now (has_ports seen.now.tests.proto) (colon_ports word.now) }
-{
-    if !has_ports(seen.tests.proto) {
-        return Err(Why::Ports);
-    }
-    match colon_ports(word) {
-        Some(sport) => Ok(testing(
-            seen,
-            Tests {
-                sport,
-                ..seen.tests
-            },
-        )),
-        None => Err(Why::Ports),
-    }
-}
-
-/// Reads a receiver's ports.
-fn read_dport(seen: &Seen, word: &[u8]) -> Result<Seen, Why>
-    ensures { result ≡ read_dport seen.now (has_ports seen.now.tests.proto) (colon_ports word.now) }
-{
-    if !has_ports(seen.tests.proto) {
-        return Err(Why::Ports);
-    }
-    match colon_ports(word) {
-        Some(dport) => Ok(testing(
-            seen,
-            Tests {
-                dport,
-                ..seen.tests
-            },
-        )),
-        None => Err(Why::Ports),
-    }
-}
-
-/// Whether packets of a protocol have ports.
-fn has_ports(proto: Option<u8>) -> bool
-    ensures { result ≡ has_ports proto }
-{
-    match proto {
-        Some(number) => number == 6 || number == 17,
-        None => false,
-    }
-}
-
-/// A port, or two with a colon between.
-fn colon_ports(word: &[u8]) -> Option<Ports>
-    ensures { result ≡ colon_ports word.now }
-{
-    match first_colon(word) {
-        None => port_pair(word, word),
-        Some(place) => port_pair(&word[..place], &word[place + 1..]),
-    }
-}
-
-/// The place of the first colon of a word.
-fn first_colon(word: &[u8]) -> Option<usize>
-    ensures place { result ≡ first_colon word.now }
-    ensures inside { IfSome result (λ place. place < length word.now) }
-{
-    word.iter().position(|byte| *byte == b':')
-}
-
-/// The ports from the first to the last.
-fn port_pair(first: &[u8], last: &[u8]) -> Option<Ports>
-    ensures { result ≡ port_pair first.now last.now }
-{
-    match port_of(first) {
-        Ok(lo) => ports_from(lo, port_of(last)),
-        Err(_) => None,
-    }
-}
-
-/// The ports from this one to the last, if there is one.
-fn ports_from(lo: u16, last: Result<u16, WordFault>) -> Option<Ports>
-    ensures { result ≡ pair_of (Ok lo) last }
-{
-    match last {
-        Ok(hi) => Ports::new(lo, hi),
-        Err(_) => None,
-    }
+    Why::Word
 }
 
 /// Reads the name of what the words behind it are of.
 fn read_module(seen: &Seen, word: &[u8]) -> Result<Seen, Why>
     ensures { result ≡ read_module seen.now word.now }
 {
-    if is_named(word, b"tcp") || is_named(word, b"udp") || is_named(word, b"comment") {
-        return Ok(expecting(seen, Expects::Option));
+    if is_module(word) {
+        return Ok(expecting(seen, Expects::Says(Part::Option)));
     }
     Err(why_no_module(word))
+}
+
+/// Whether the words of a module are known.
+fn is_module(word: &[u8]) -> bool
+    ensures { result ≡ is_module word.now }
+{
+    is_named(word, b"tcp")
+        || is_named(word, b"udp")
+        || is_named(word, b"multiport")
+        || is_named(word, b"iprange")
+        || is_named(word, b"comment")
 }
 
 /// Why a rule of another one isn't said.
@@ -475,9 +373,9 @@ fn read_comment(seen: &Seen, word: &[u8]) -> Seen
     ensures { result ≡ read_comment seen.now word.now }
 {
     if opens_quote(word) {
-        return expecting(seen, Expects::Quoted);
+        return expecting(seen, Expects::Says(Part::Quoted));
     }
-    expecting(seen, Expects::Option)
+    expecting(seen, Expects::Says(Part::Option))
 }
 
 /// Reads more of it.
@@ -485,9 +383,9 @@ fn read_quoted(seen: &Seen, word: &[u8]) -> Seen
     ensures { result ≡ read_quoted seen.now word.now }
 {
     if ends_quote(word) {
-        return expecting(seen, Expects::Option);
+        return expecting(seen, Expects::Says(Part::Option));
     }
-    expecting(seen, Expects::Quoted)
+    expecting(seen, Expects::Says(Part::Quoted))
 }
 
 /// Reads a target.
@@ -500,34 +398,9 @@ fn read_target(seen: &Seen, word: &[u8], names: &Names) -> Result<Seen, Why>
     match target_of(word, names) {
         None => Err(Why::Target),
         Some(target) => Ok(Seen {
-            expects: Expects::Option,
-            tests: seen.tests,
+            expects: Expects::Says(Part::Option),
             target: Some(target),
+            ..*seen
         }),
-    }
-}
-
-/// The target of a name: a verdict, a return, or a chain.
-fn target_of(word: &[u8], names: &Names) -> Option<Target>
-    ensures { result ≡ target_of names.now word.now }
-{
-    if is_named(word, b"ACCEPT") {
-        Some(Target::Decides(true))
-    } else if is_named(word, b"DROP") || is_named(word, b"REJECT") {
-        Some(Target::Decides(false))
-    } else if is_named(word, b"RETURN") {
-        Some(Target::Returns)
-    } else {
-        jump_to(names.number_of(word))
-    }
-}
-
-/// A jump to a chain, if there is one.
-fn jump_to(chain: Option<usize>) -> Option<Target>
-    ensures { result ≡ jump_to chain }
-{
-    match chain {
-        Some(number) => Some(Target::Jumps(number)),
-        None => None,
     }
 }

@@ -2,7 +2,7 @@
 
 ghost use Rattle.std.specs.Prelude.{◌≡◌, ◌≤◌, ◌<◌, ◌^◌, ◌++◌, ◌∷◌, OnOk, decimal, take, length};
 ghost use Rattle.written_chains.specs.Walks.{or_policy};
-ghost use Rattle.iptables.specs.Telling.{action_text, address_text, dotted, list_text, note_line, ports_text, proto_text, rule_text, side_text, table_line, unsaid_text};
+ghost use Rattle.iptables.specs.Telling.{action_text, address_text, dotted, empty_line, list_text, note_line, ports_text, proto_text, rule_text, side_text, table_line, unsaid_text};
 
 use crate::why::Why;
 use itoa::Buffer;
@@ -15,7 +15,7 @@ use written_chains::{Line, Tests};
 const WORD_BYTES: usize = 64;
 
 /// The most lines of a list, but its last one: a batch of a script has room for 4,096 changes.
-pub(crate) const MOST_LINES: usize = 4095;
+pub const MOST_LINES: usize = 4095;
 
 /// Puts bytes there.
 fn put_bytes(into: &mut Vec<u8>, bytes: &[u8]) -> Result<(), AllocError>
@@ -64,6 +64,16 @@ pub(crate) fn put_note(into: &mut Vec<u8>, text: &[u8]) -> Result<(), AllocError
     Ok(())
 }
 
+/// Puts the comment there on a rule that holds no packet.
+pub(crate) fn put_empty(into: &mut Vec<u8>, text: &[u8]) -> Result<(), AllocError>
+    ensures { OnOk result (into.new.items ≡ into.old.items ++ empty_line text.now) }
+{
+    put_bytes(into, b"# no packet: ")?;
+    put_bytes(into, text)?;
+    put_bytes(into, b"\n")?;
+    Ok(())
+}
+
 /// Puts the comment there on another table.
 pub(crate) fn put_table(into: &mut Vec<u8>, text: &[u8]) -> Result<(), AllocError>
     ensures { OnOk result (into.new.items ≡ into.old.items ++ table_line text.now) }
@@ -75,7 +85,7 @@ pub(crate) fn put_table(into: &mut Vec<u8>, text: &[u8]) -> Result<(), AllocErro
 }
 
 /// Puts the lines of a list there, numbered by tens, and the last one, which gives each packet the policy.
-pub(crate) fn put_list(
+pub fn put_list(
     into: &mut Vec<u8>,
     version: IpVersion,
     policy: bool,

@@ -14,6 +14,8 @@ pub(crate) enum Why {
     Escape,
     /// The word is no prefix of this version of IP.
     Address,
+    /// The word is no two addresses of this version, in their order, with a dash between.
+    Span,
     /// The word is no protocol that is known by its name or its number.
     Protocol,
     /// The word is no port and no range of ports, or the protocol has none.
@@ -38,6 +40,8 @@ pub(crate) enum Why {
     Many,
     /// Jumps are nested too deep, or lead in a circle.
     Deep,
+    /// Chains of nft stand beside those that are printed.
+    Beside,
 }
 
 impl Why {
@@ -50,6 +54,7 @@ impl Why {
             Why::Value => "no value",
             Why::Escape => "backslash",
             Why::Address => "no prefix",
+            Why::Span => "no range",
             Why::Protocol => "unknown protocol",
             Why::Ports => "no ports",
             Why::State => "conntrack state",
@@ -62,6 +67,7 @@ impl Why {
             Why::Policy => "no policy",
             Why::Many => "too many lines",
             Why::Deep => "jumps too deep",
+            Why::Beside => "chains beside",
         }
     }
 }

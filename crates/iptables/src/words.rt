@@ -55,7 +55,6 @@ pub(crate) fn is_passing(word: &[u8]) -> bool
 {
     is_named(word, b"LOG")
         || is_named(word, b"NFLOG")
-        || is_named(word, b"ULOG")
         || is_named(word, b"AUDIT")
         || is_named(word, b"TRACE")
 }

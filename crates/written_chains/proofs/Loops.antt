@@ -1,5 +1,6 @@
 -- The lines that loops put, one after the other.
-use Rattle.std.proofs.Common.{◌≡◌, ◌≢◌, ◌<◌, ◌≤◌, ◌+◌, ◌-◌, ℕ, zero, suc, Bool, le-leb, cond, Option, None, Result, Ok, Err, List, [], ◌∷◌, ◌++◌, length, drop, get_or, refl, sym, ap, ◌∙◌, arith, append-nil, append_assoc}
+use Rattle.std.proofs.Common.{◌≡◌, ◌≢◌, ◌<◌, ◌≤◌, ◌+◌, ◌-◌, ℕ, zero, suc, Bool, le-leb, cond, Option, Some, None, Result, Ok, Err, List, [], ◌∷◌, ◌++◌, length, drop, get_or, refl, sym, ap, ◌∙◌, arith, append-nil, append_assoc, subst}
+use Rattle.std.specs.Prelude.{MatchOption}
 use Rattle.std.proofs.lemmas.Bool.{eq-eqb, lt-leb, ne_eqb}
 use Rattle.std.proofs.lemmas.List.{at_drop_more, at_drop_all}
 use Rattle.rule_model.specs.AddressBlock.{any_address}
@@ -12,7 +13,7 @@ use Rattle.written_chains.specs.declared.writing.Refused.TheVariants.{TooDeep, T
 use Rattle.written_chains.specs.declared.writing.Target.{Target}
 use Rattle.written_chains.specs.declared.writing.Target.TheVariants.{Decides, Returns, Jumps}
 use Rattle.written_chains.specs.Meets.{meet}
-use Rattle.written_chains.specs.Written.{◌>>=◌, called_by, called_lines, joined, met_line, narrowed, rules_out, under, with_rule, within, written_out}
+use Rattle.written_chains.specs.Written.{◌>>=◌, called_by, called_lines, joined, met_line, narrowed, rules_out, target_lines, under, with_rule, within, written_out}
 
 -- what a list has where it has nothing
 abbrev pub no_line : Line
@@ -129,3 +130,27 @@ deeper most rules zero chain some = absurd (some refl)
 deeper most rules (suc depth) chain some =
     let same : depth ≡ suc depth - 1 = omega arith in
     ap (λ n. rules_out most (λ callee. written_out most rules n callee) chain rules) same
+
+-- ---- the lines that are kept
+
+-- of the chain that is known
+abbrev pub Keeps : Option ℕ → Call → List Line → Type 0
+Keeps known call kept = MatchOption known (Unit {0}) (λ callee. call callee ≡ Ok kept)
+
+pub keeps-new : (call : Call) (known : Option ℕ) (kept : List Line) (callee : ℕ) → known ≡ Some callee → call callee ≡ Ok kept → Keeps known call kept
+keeps-new call known kept callee is made = subst (λ (o : Option ℕ). MatchOption o (Unit {0}) (λ other. call other ≡ Ok kept)) (sym is) made
+
+pub keeps-on : (call : Call) (known before : Option ℕ) (kept given : List Line) → known ≡ before → kept ≡ given → Keeps before call given → Keeps known call kept
+keeps-on call known before kept given is same keeps =
+    subst (λ (o : Option ℕ). MatchOption o (Unit {0}) (λ other. call other ≡ Ok kept)) (sym is) (subst (λ (l : List Line). MatchOption before (Unit {0}) (λ other. call other ≡ Ok l)) (sym same) keeps)
+
+pub same-callee : (target : Target) (callee other : ℕ) → target ≡ Jumps callee → target ≡ Jumps other → callee ≡ other
+same-callee target callee other is at = let both : Jumps callee ≡ Jumps other = sym is ∙ at in cc
+
+-- what a rule calls is what is kept, or nothing
+pub called-kept : (call : Call) (tests : Tests) (target : Target) (known : Option ℕ) (kept behind : List Line) → Keeps known call kept → ((callee : ℕ) → target ≡ Jumps callee → known ≡ Some callee)
+    → (called : List Line) × (called_by call target ≡ Ok called) × (target_lines tests target kept behind ++ behind ≡ target_lines tests target called behind ++ behind)
+called-kept call tests (Decides permits) known kept behind keeps leads = ([], refl, refl)
+called-kept call tests Returns known kept behind keeps leads = ([], refl, refl)
+called-kept call tests (Jumps callee) known kept behind keeps leads =
+    (kept, subst (λ (o : Option ℕ). MatchOption o (Unit {0}) (λ other. call other ≡ Ok kept)) (leads callee refl) keeps, refl)

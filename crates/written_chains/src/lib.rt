@@ -19,6 +19,9 @@
 //!   a packet that comes back from a chain comes back from it each time.
 //! - **A list has a most number of lines**, and jumps a most depth: behind them the chains aren't written out, and it is said
 //!   why. Jumps in a circle are too deep.
+//! - **The lines of the chain to which the last rule led are kept**: a line of a firewall that is several rules jumps to the
+//!   same chain as often, one rule beside the other, and would have it written out anew for each. Rules that lead by turns to
+//!   two chains have both written out each time, so the time may still grow with the ways through nested jumps.
 //! - **A law says that a list answers as the walk does** (`lists_answer_as_walks`), for each packet.
 #![tactic(auto)]
 

@@ -1,6 +1,6 @@
 //! A chain written out.
 
-ghost use Rattle.std.specs.Prelude.{◌≡◌, ◌++◌, ◌∷◌, [], Ok, Err, Some, None, IfOk, OnOk, MatchResult, length, ◌≤◌};
+ghost use Rattle.std.specs.Prelude.{false, ◌≡◌, ◌++◌, ◌∷◌, [], ℕ, Ok, Err, Some, None, IfOk, IfSome, OnOk, MatchResult, length, ◌≤◌};
 ghost use Rattle.written_chains.specs.Written.{called_lines, joined, met_line, narrowed, target_lines, under, written_out};
 
 use crate::meets::{Tests, meet};
@@ -58,26 +58,55 @@ pub fn written_out(
         return Ok(Err(Refused::TooDeep));
     }
     let mut behind = Vec::new(alloc);
+    // The chain to which the last rule led, and its lines: rules that stand side by side mostly lead to the same one.
+    let mut known = None;
+    let mut kept = Vec::new(alloc);
     'rules: for place in (0..rules.len()).rev() {
         let rule = rules[place];
         if rule.chain == chain {
-            let called = match rule.target {
-                Target::Jumps(callee) => {
-                    match written_out(alloc, rules, callee, depth - 1, most)? {
-                        Ok(lines) => lines,
-                        Err(refused) => return Ok(Err(refused)),
+            if let Some(callee) = new_callee(known, rule.target) {
+                match written_out(alloc, rules, callee, depth - 1, most)? {
+                    Ok(lines) => {
+                        known = Some(callee);
+                        kept = lines;
                     }
+                    Err(refused) => return Ok(Err(refused)),
                 }
-                Target::Decides(_) => Vec::new(alloc),
-                Target::Returns => Vec::new(alloc),
-            };
-            behind = joined(alloc, &rule, called.as_slice(), behind.as_slice())?;
+            }
+            behind = joined(alloc, &rule, kept.as_slice(), behind.as_slice())?;
             if behind.len() > most {
                 return Ok(Err(Refused::TooMany));
             }
         }
     }
     Ok(Ok(behind))
+}
+
+/// The chain to which a rule leads, if it isn't the one whose lines are known.
+fn new_callee(known: Option<usize>, target: Target) -> Option<usize>
+    ensures leads { IfSome result (λ callee. target ≡ Target.Jumps callee) }
+    ensures known { result ≡ None → (callee : ℕ) → target ≡ Target.Jumps callee → known ≡ Some callee }
+{
+    match target {
+        Target::Jumps(callee) => {
+            if is_new(known, callee) {
+                return Some(callee);
+            }
+            None
+        }
+        Target::Decides(_) => None,
+        Target::Returns => None,
+    }
+}
+
+/// Whether a chain isn't the one whose lines are known.
+fn is_new(known: Option<usize>, callee: usize) -> bool
+    ensures { result ≡ false → known ≡ Some callee }
+{
+    match known {
+        Some(last) => last != callee,
+        None => true,
+    }
 }
 
 /// The lines of a rule, and those behind it.

@@ -1,4 +1,5 @@
 use Rattle.std.proofs.Common.{◌≡◌, ◌≤◌, ◌-◌, Ok, drop, length}
+use Rattle.std.specs.Prelude.{MatchOption}
 use Rattle.written_chains.specs.Written.{rules_out, written_out}
 use Rattle.written_chains.proofs.writing.+written_out.Given as goal
 
@@ -10,4 +11,5 @@ abbrev pub invariant-rules : goal.invariant-rules
 invariant-rules l = record {
   lines : rules_out l.most (λ callee. written_out l.most l.rules (l.depth - 1) callee) l.chain (drop l.place l.rules) ≡ Ok l.behind.items;
   few : length l.behind.items ≤ l.most;
+  kept : MatchOption l.known (Unit {0}) (λ callee. written_out l.most l.rules (l.depth - 1) callee ≡ Ok l.kept.items);
 }
