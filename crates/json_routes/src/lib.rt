@@ -26,4 +26,6 @@ mod script;
 mod text;
 mod top;
 
-pub use top::import_json;
+pub use line::{named_key, text_of};
+pub use script::{put_left_out, put_left_out_count, put_stop};
+pub use top::{Unread, import_json, read_all};

@@ -33,7 +33,7 @@ fn has_odd(text: &[u8]) -> bool
 }
 
 /// What a comment names a key by.
-fn named_key(key: &[u8]) -> &[u8]
+pub fn named_key(key: &[u8]) -> &[u8]
     ensures { result.now ≡ named_key key.now }
 {
     if is_one_word(key) {
@@ -81,7 +81,7 @@ pub(crate) fn put_encapsulated(line: &mut Vec<u8>) -> Result<Told, AllocError>
 }
 
 /// The word that a value is: a text, or a number as it is written.
-fn text_of<'v>(value: &Value<'v>) -> Option<&'v str>
+pub fn text_of<'v>(value: &Value<'v>) -> Option<&'v str>
     ensures { option_map (λ text. text.now) result ≡ text_of (value_view value.now) }
 {
     match value {

@@ -139,7 +139,7 @@ fn put_bytes(into: &mut Vec<u8>, bytes: &[u8]) -> Result<(), AllocError>
 }
 
 /// Puts the last line of a script there that ends at the item of this number.
-fn put_stop(into: &mut Vec<u8>, number: u64, why: &[u8]) -> Result<(), AllocError>
+pub fn put_stop(into: &mut Vec<u8>, number: u64, why: &[u8]) -> Result<(), AllocError>
     ensures { OnOk result (into.new.items ≡ into.old.items ++ stop_item number why.now) }
 {
     into.extend_from_slice(b"item ")?;
@@ -151,7 +151,7 @@ fn put_stop(into: &mut Vec<u8>, number: u64, why: &[u8]) -> Result<(), AllocErro
 }
 
 /// Puts the comment there that tells of the item of this number, which is left out.
-fn put_left_out(into: &mut Vec<u8>, number: u64, why: &[u8]) -> Result<(), AllocError>
+pub fn put_left_out(into: &mut Vec<u8>, number: u64, why: &[u8]) -> Result<(), AllocError>
     ensures { OnOk result (into.new.items ≡ into.old.items ++ left_out_item number why.now) }
 {
     put_bytes(into, b"# left out: item ")?;
@@ -163,7 +163,7 @@ fn put_left_out(into: &mut Vec<u8>, number: u64, why: &[u8]) -> Result<(), Alloc
 }
 
 /// Puts the comment there that tells how many items are left out, if there are any.
-fn put_left_out_count(into: &mut Vec<u8>, count: u64) -> Result<(), AllocError>
+pub fn put_left_out_count(into: &mut Vec<u8>, count: u64) -> Result<(), AllocError>
     ensures { OnOk result (into.new.items ≡ into.old.items ++ left_out_items count) }
 {
     if count == 0 {

@@ -15,7 +15,7 @@ use std::alloc::Global;
 
 /// Why a source wasn't read to its end.
 #[derive(Clone, Copy, Debug, PartialEq, Eq)]
-pub(crate) enum Unread {
+pub enum Unread {
     /// It failed.
     Fault,
     /// Want of memory.
@@ -56,7 +56,7 @@ pub fn import_json<S: Source, K: Sink>(
 }
 
 /// The bytes that a source gives to its end.
-fn read_all<S: Source>(alloc: Global, source: &mut S) -> Result<Vec<u8>, Unread>
+pub fn read_all<S: Source>(alloc: Global, source: &mut S) -> Result<Vec<u8>, Unread>
     ensures reads { (pieces : List (List ℕ)) × GivesPieces (S.given source.old) (S.given source.new) (S.left source.old) (S.left source.new) pieces × IfOk result (λ text. IsWholeOf pieces text.items) }
     ensures cause { IsCounted (result ≡ Err Unread.Fault) (S.faults source.old) (S.faults source.new) }
 {

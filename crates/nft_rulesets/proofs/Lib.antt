@@ -1,0 +1,6 @@
+mod Loops
+mod Scripts
+mod Texts
+mod Holding
+mod Comparing
+mod Looking

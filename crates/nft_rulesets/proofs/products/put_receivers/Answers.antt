@@ -1,0 +1,12 @@
+use Rattle.std.proofs.Common.{sym, ◌∙◌, arith}
+use Rattle.nft_rulesets.specs.Products.{receiver_test}
+use Rattle.nft_rulesets.proofs.Loops.{map-made, map-end}
+use Rattle.nft_rulesets.proofs.products.put_receivers.Goals as goal
+
+pub loop-block-preserved : goal.loop-block-preserved
+loop-block-preserved c = record {
+  put = map-made receiver_test c.args.blocks.now _ _ c.loop-block.block-index c.block-item.result c.block-item.result c.receiver_test.result (omega arith) c.block-item.is c.receiver_test.ensures c.in_ok-push.ensures.items ∙ c.loop-block.invariant.put;
+}
+
+pub returns : goal.returns
+returns c = sym (map-end receiver_test c.args.blocks.now _ c.loop-block.block-index (omega arith)) ∙ c.loop-block.invariant.put

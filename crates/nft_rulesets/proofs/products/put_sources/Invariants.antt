@@ -1,0 +1,6 @@
+use Rattle.std.proofs.Common.{◌≡◌, ◌++◌, drop, map}
+use Rattle.nft_rulesets.specs.Products.{source_test}
+use Rattle.nft_rulesets.proofs.products.put_sources.Given as goal
+
+abbrev pub invariant-loop-block : goal.invariant-loop-block
+invariant-loop-block l = record { put : l.into.items ++ map source_test (drop l.block-index l.blocks) ≡ l.fn.into.items ++ map source_test l.blocks }

@@ -1,0 +1,65 @@
+-- What comparisons mean, in the words of packets.
+use Rattle.std.specs.Prelude.{◌≡◌, ℕ, ◌<◌, ◌^◌, Bool, true, false, not, ◌==◌, ◌&&◌, nat_le, Ok, Option, Some, None, List}
+use Rattle.std.specs.List.{list_any}
+use Rattle.rule_model.specs.declared.Key.{Key}
+use Rattle.rule_model.specs.AddressBlock.{block_holds}
+use Rattle.rule_model.specs.Key.{IsKey}
+use Rattle.written_chains.specs.declared.meets.Tests.{Tests}
+use Rattle.written_chains.specs.Meets.{tests_hold}
+use Rattle.nft_rulesets.specs.declared.fields.Field.{Field}
+use Rattle.nft_rulesets.specs.declared.fields.Field.TheVariants as field
+use Rattle.nft_rulesets.specs.declared.spans.Span.{Span}
+use Rattle.nft_rulesets.specs.Matches.{of_same}
+use Rattle.nft_rulesets.specs.Spans.{blocks, outside_up_to}
+use Rattle.nft_rulesets.specs.Products.{compared}
+
+-- a number is in a span, and in one of several
+abbrev pub span_holds : Span → ℕ → Bool
+span_holds span number = nat_le span.lo number && nat_le number span.hi
+
+abbrev pub in_spans : List Span → ℕ → Bool
+in_spans spans number = list_any (λ (span : Span). span_holds span number) spans
+
+-- an address is in one of the blocks of a span exactly where it is in the span
+abbrev pub BlocksAreTheSpan : Type 0
+BlocksAreTheSpan = (span : Span) (address : ℕ) → address < 2 ^ 128 → list_any (λ block. block_holds block address) (blocks 128 0 span) ≡ span_holds span address
+
+-- a number is outside of some spans exactly where none of them has it
+abbrev pub OutsideIsTheRest : Type 0
+OutsideIsTheRest = (most : ℕ) (cuts : List Span) (number : ℕ) → in_spans (outside_up_to most cuts) number ≡ (nat_le number most && not (in_spans cuts number))
+
+-- ---- packets
+
+-- one of some tests holds a packet's key
+abbrev pub any_holds : List Tests → Key → Bool
+any_holds tests key = list_any (λ one. tests_hold one key) tests
+
+-- what a packet has of a field that has numbers
+abbrev pub number_of : Field → Key → Option ℕ
+number_of field.Source key = Some key.src
+number_of field.Receiver key = Some key.dst
+number_of field.Protocol key = Some key.proto
+number_of (field.SourcePort proto) key = Some key.sport
+number_of (field.ReceiverPort proto) key = Some key.dport
+number_of field.Version key = None
+number_of field.Absent key = None
+
+-- it is of the protocol that a port is of
+abbrev pub same_proto : Option ℕ → Key → Bool
+same_proto None key = true
+same_proto (Some proto) key = key.proto == proto
+
+abbrev pub is_of_field : Field → Key → Bool
+is_of_field field.Source key = true
+is_of_field field.Receiver key = true
+is_of_field field.Protocol key = true
+is_of_field (field.SourcePort proto) key = same_proto proto key
+is_of_field (field.ReceiverPort proto) key = same_proto proto key
+is_of_field field.Version key = false
+is_of_field field.Absent key = false
+
+-- A comparison leaves of some tests those packets whose field is in one of its spans, or, where it is negated, in none.
+abbrev pub ComparisonsHoldWhatTheySay : Type 0
+ComparisonsHoldWhatTheySay = (tests both : List Tests) (tested : Field) (negated : Bool) (spans : List Span) (key : Key) (number : ℕ)
+    → IsKey key → number_of tested key ≡ Some number → compared tests tested negated spans ≡ Ok both
+    → any_holds both key ≡ (any_holds tests key && (is_of_field tested key && of_same (in_spans spans number) negated))

@@ -1,0 +1,11 @@
+pub mod Looks
+pub mod Defined
+pub mod Spans
+pub mod Values
+pub mod Products
+pub mod Matches
+pub mod Verdicts
+pub mod Rules
+pub mod Items
+pub mod Texts
+pub mod Laws

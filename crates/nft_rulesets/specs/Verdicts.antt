@@ -1,0 +1,137 @@
+-- What becomes of packets: verdicts, and maps that have one for each value.
+use Rattle.std.specs.Prelude.{◌≡◌, ℕ, true, false, not, ◌||◌, Result, Ok, Err, Option, Some, None, List, [], ◌∷◌, ◌++◌, map, codes, if◌then◌else◌}
+use Rattle.std.specs.Str.{bytes_eq}
+use Rattle.json.specs.Find.{as_array, get}
+use Rattle.json.specs.Json.{Json, Items, no_items, item}
+use Rattle.written_chains.specs.declared.meets.Tests.{Tests}
+use Rattle.written_chains.specs.declared.writing.ChainRule.{ChainRule}
+use Rattle.written_chains.specs.declared.writing.Target.{Target}
+use Rattle.written_chains.specs.declared.writing.Target.TheVariants as target
+use Rattle.nft_rulesets.specs.declared.asked.Asked.{Asked}
+use Rattle.nft_rulesets.specs.declared.fields.Field.{Field}
+use Rattle.nft_rulesets.specs.declared.fields.Field.TheVariants as field
+use Rattle.nft_rulesets.specs.declared.spans.Span.{Span}
+use Rattle.nft_rulesets.specs.declared.verdicts.Verdict.{Verdict}
+use Rattle.nft_rulesets.specs.declared.verdicts.Verdict.TheVariants as verdict
+use Rattle.nft_rulesets.specs.declared.why.Why.{Why}
+use Rattle.nft_rulesets.specs.declared.why.Why.TheVariants as why
+use Rattle.nft_rulesets.specs.Defined.{elements, place_of}
+use Rattle.nft_rulesets.specs.Looks.{has_members, pair_in, sole, text_at}
+use Rattle.nft_rulesets.specs.Matches.{field_of}
+use Rattle.nft_rulesets.specs.Products.{product}
+use Rattle.nft_rulesets.specs.Values.{element_span, listed_items, name_in, named_items, set_in}
+
+-- ---- a verdict
+
+-- the chain that one leads to
+abbrev pub leads_to : Asked → Items → Option (List ℕ) → Option ℕ
+leads_to asked all None = None
+leads_to asked all (Some name) = place_of asked (codes "chain") name all
+
+abbrev pub jump_to : Option ℕ → Result Verdict Why
+jump_to None = Err why.Target
+jump_to (Some chain) = Ok (verdict.Jumps chain)
+
+abbrev pub go_to : Option ℕ → Result Verdict Why
+go_to None = Err why.Target
+go_to (Some chain) = Ok (verdict.Goes chain)
+
+abbrev pub verdict_of : Asked → Items → List ℕ → Json → Result Verdict Why
+verdict_of asked all key body =
+    if bytes_eq key (codes "accept") then Ok (verdict.Decides true)
+    else if bytes_eq key (codes "drop") || bytes_eq key (codes "reject") then Ok (verdict.Decides false)
+    else if bytes_eq key (codes "return") then Ok verdict.Returns
+    else if bytes_eq key (codes "continue") then Ok verdict.Continues
+    else if bytes_eq key (codes "jump") then jump_to (leads_to asked all (text_at (codes "target") body))
+    else if bytes_eq key (codes "goto") then go_to (leads_to asked all (text_at (codes "target") body))
+    else Err why.Statement
+
+-- ---- the rules of one chain that it is
+
+abbrev pub rule_with : ℕ → Target → Tests → ChainRule
+rule_with chain to one = record { chain = chain; tests = one; target = to }
+
+abbrev pub with_target : ℕ → List Tests → Target → List ChainRule
+with_target chain tests to = map (rule_with chain to) tests
+
+-- A packet that goes to another chain doesn't come back: where it leaves that one, it leaves this one too.
+abbrev pub verdict_rules : ℕ → List Tests → Verdict → List ChainRule
+verdict_rules chain tests (verdict.Decides permits) = with_target chain tests (target.Decides permits)
+verdict_rules chain tests verdict.Returns = with_target chain tests target.Returns
+verdict_rules chain tests (verdict.Jumps callee) = with_target chain tests (target.Jumps callee)
+verdict_rules chain tests (verdict.Goes callee) = with_target chain tests (target.Jumps callee) ++ with_target chain tests target.Returns
+verdict_rules chain tests verdict.Continues = []
+
+abbrev pub decided : ℕ → List Tests → Result Verdict Why → Result (List ChainRule) Why
+decided chain tests (Ok found) = Ok (verdict_rules chain tests found)
+decided chain tests (Err reason) = Err reason
+
+-- rules were put behind others, or it is known why not
+abbrev pub ArePut : Result (Unit {0}) Why → Result (List ChainRule) Why → List ChainRule → List ChainRule → Type 0
+ArePut (Ok done) found old new = (rules : List ChainRule) × (found ≡ Ok rules) × (new ≡ old ++ rules)
+ArePut (Err reason) found old new = found ≡ Err reason
+
+-- ---- a map
+
+abbrev pub pair_decided : Asked → Items → ℕ → List ℕ → Json → Result (List Tests) Why → Result (List ChainRule) Why
+pair_decided asked all chain key body (Ok tests) = decided chain tests (verdict_of asked all key body)
+pair_decided asked all chain key body (Err reason) = Err reason
+
+abbrev pub pair_tests : List Tests → Field → Option Span → Result (List Tests) Why
+pair_tests tests tested None = Err why.Values
+pair_tests tests tested (Some span) = product tests tested (span ∷ [])
+
+abbrev pub sole_decided : Asked → Items → ℕ → List Tests → Field → Json → Option (List ℕ × Json) → Result (List ChainRule) Why
+sole_decided asked all chain tests tested value None = Err why.Values
+sole_decided asked all chain tests tested value (Some (key, body)) =
+    pair_decided asked all chain key body (pair_tests tests tested (element_span tested asked.version value))
+
+abbrev pub both_decided : Asked → Items → ℕ → List Tests → Field → Option (Json × Json) → Result (List ChainRule) Why
+both_decided asked all chain tests tested None = Err why.Values
+both_decided asked all chain tests tested (Some (value, to)) = sole_decided asked all chain tests tested value (sole to)
+
+abbrev pub before_rules : Result (List ChainRule) Why → Result (List ChainRule) Why → Result (List ChainRule) Why
+before_rules (Err reason) behind = Err reason
+before_rules (Ok rules) (Err reason) = Err reason
+before_rules (Ok rules) (Ok behind) = Ok (rules ++ behind)
+
+-- the rules of a map's pairs
+abbrev pub pairs_decided : Asked → Items → ℕ → List Tests → Field → Items → Result (List ChainRule) Why
+pairs_decided asked all chain tests tested no_items = Ok []
+pairs_decided asked all chain tests tested (item value items) =
+    before_rules (both_decided asked all chain tests tested (pair_in value)) (pairs_decided asked all chain tests tested items)
+
+abbrev pub items_decided : Asked → Items → ℕ → List Tests → Field → Result Items Why → Result (List ChainRule) Why
+items_decided asked all chain tests tested (Ok items) = pairs_decided asked all chain tests tested items
+items_decided asked all chain tests tested (Err reason) = Err reason
+
+-- the pairs of a map that has a name, or that stands here
+abbrev pub plain_pairs : Option Json → Result Items Why
+plain_pairs None = Err why.Values
+plain_pairs (Some body) = listed_items (as_array body)
+
+abbrev pub pairs_by : Asked → Items → Json → Option (List ℕ) → Result Items Why
+pairs_by asked all map_value None = plain_pairs (set_in (sole map_value))
+pairs_by asked all map_value (Some name) = named_items (elements asked (codes "map") name all)
+
+abbrev pub pairs_of : Asked → Items → Option Json → Result Items Why
+pairs_of asked all None = Err why.Values
+pairs_of asked all (Some map_value) = pairs_by asked all map_value (name_in map_value)
+
+abbrev pub field_mapped : Asked → Items → ℕ → List Tests → Field → Option Json → Result (List ChainRule) Why
+field_mapped asked all chain tests field.Absent pairs = Ok []
+field_mapped asked all chain tests field.Version pairs = Err why.Match
+field_mapped asked all chain tests field.Source pairs = items_decided asked all chain tests field.Source (pairs_of asked all pairs)
+field_mapped asked all chain tests field.Receiver pairs = items_decided asked all chain tests field.Receiver (pairs_of asked all pairs)
+field_mapped asked all chain tests field.Protocol pairs = items_decided asked all chain tests field.Protocol (pairs_of asked all pairs)
+field_mapped asked all chain tests (field.SourcePort proto) pairs = items_decided asked all chain tests (field.SourcePort proto) (pairs_of asked all pairs)
+field_mapped asked all chain tests (field.ReceiverPort proto) pairs = items_decided asked all chain tests (field.ReceiverPort proto) (pairs_of asked all pairs)
+
+abbrev pub mapped_by : Asked → Items → ℕ → List Tests → Json → Result Field Why → Result (List ChainRule) Why
+mapped_by asked all chain tests body (Err reason) = Err reason
+mapped_by asked all chain tests body (Ok tested) =
+    if not (has_members 2 body) then Err why.Operator else field_mapped asked all chain tests tested (get (codes "data") body)
+
+-- The rules of a map, behind these tests.
+abbrev pub mapped : Asked → Items → ℕ → List Tests → Json → Result (List ChainRule) Why
+mapped asked all chain tests body = mapped_by asked all chain tests body (field_of asked.version (get (codes "key") body))
