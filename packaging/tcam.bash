@@ -8,7 +8,7 @@ _tcam() {
     --removals) words="first last" ;;
     --chain) words="INPUT FORWARD OUTPUT" ;;
     --slots | --depth | --commit | --commits | --list) ;; # a number, or two, or a name
-    import) words="ip-routes ip-monitor ip-json cisco fpm iptables --version --leave-out --list --chain --help" ;;
+    import) words="ip-routes ip-monitor ip-json cisco fpm iptables nft --version --leave-out --list --chain --in --help" ;;
     tcam | */tcam) words="route acl route6 acl6 router router6 gen verify draw explain import judge --help --version" ;;
     explain) words="route acl route6 acl6 router router6 gen verify draw import judge --help" ;;
     *)
@@ -19,7 +19,7 @@ _tcam() {
         gen) words="--slots --ranges --placement --help" ;;
         verify) words="--help" ;;
         draw) words="--commit --commits --occupancy --help" ;;
-        import) words="--version --leave-out --list --chain --help" ;;
+        import) words="--version --leave-out --list --chain --in --help" ;;
         judge) words="--results --help" ;;
         esac
         ;;

@@ -2,6 +2,7 @@
 
 ghost use Rattle.std.specs.Prelude.{◌<◌};
 
+use import_cli::{ChainName, FaceName};
 use option_words::{mode_named, number_of, placement_of};
 
 /// The commands of the program, by their options.
@@ -35,12 +36,13 @@ pub(crate) enum Name {
     LeaveOut,
     List,
     Chain,
+    In,
     Results,
     Help,
 }
 
 /// How many options there are.
-pub(crate) const NAMES: usize = 17;
+pub(crate) const NAMES: usize = 18;
 
 /// The command that a word names.
 pub(crate) fn subcommand_named(word: &str) -> Option<Subcommand> {
@@ -75,6 +77,7 @@ pub(crate) fn option_named(word: &str) -> Option<Name> {
         "--leave-out" => Some(Name::LeaveOut),
         "--list" => Some(Name::List),
         "--chain" => Some(Name::Chain),
+        "--in" => Some(Name::In),
         "--results" => Some(Name::Results),
         "--help" | "-h" => Some(Name::Help),
         _ => None,
@@ -101,7 +104,7 @@ pub(crate) fn has_option(subcommand: Subcommand, name: Name) -> bool {
             matches!(subcommand, Subcommand::Route | Subcommand::Acl)
         }
         Name::Commit | Name::Commits | Name::Occupancy => subcommand == Subcommand::Draw,
-        Name::Version | Name::LeaveOut | Name::List | Name::Chain => subcommand
+        Name::Version | Name::LeaveOut | Name::List | Name::Chain | Name::In => subcommand
             == Subcommand::Import,
         Name::Results => subcommand == Subcommand::Judge,
     }
@@ -118,7 +121,7 @@ pub(crate) fn options_text(subcommand: Subcommand) -> &'static str {
         Subcommand::Gen => "--slots, --ranges and --placement",
         Subcommand::Verify => "no option",
         Subcommand::Draw => "--commit, --commits and --occupancy",
-        Subcommand::Import => "--version, --leave-out, --list and --chain",
+        Subcommand::Import => "--version, --leave-out, --list, --chain and --in",
         Subcommand::Judge => "--results",
     }
 }
@@ -135,7 +138,10 @@ pub(crate) fn values_text(name: Name) -> Option<&'static str> {
         Name::Commits => Some("two numbers from 1, as 2-5"),
         Name::Version => Some("4 or 6"),
         Name::List => Some("the name of a list, of cisco"),
-        Name::Chain => Some("INPUT, FORWARD or OUTPUT, of iptables"),
+        Name::Chain => Some(
+            "INPUT, FORWARD or OUTPUT, of iptables, or three names, of nft: family, table and chain",
+        ),
+        Name::In => Some("the name of an interface, of iptables"),
         Name::Trace
         | Name::Names
         | Name::Json
@@ -158,7 +164,8 @@ pub(crate) fn is_value(name: Name, value: &str) -> bool {
         Name::Commits => are_commits(value),
         Name::Version => matches!(value, "4" | "6"),
         Name::List => value.len() <= 64,
-        Name::Chain => matches!(value, "INPUT" | "FORWARD" | "OUTPUT"),
+        Name::Chain => is_chain(value),
+        Name::In => FaceName::new(value.as_bytes()).is_some(),
         Name::Trace
         | Name::Names
         | Name::Json
@@ -167,6 +174,11 @@ pub(crate) fn is_value(name: Name, value: &str) -> bool {
         | Name::Results
         | Name::Help => false,
     }
+}
+
+/// Whether a value is a chain of iptables, or one of nft.
+fn is_chain(value: &str) -> bool {
+    matches!(value, "INPUT" | "FORWARD" | "OUTPUT") || ChainName::new(value).is_some()
 }
 
 /// Whether a value is the number of a commit.
@@ -207,6 +219,7 @@ pub(crate) fn place_of(name: Name) -> usize
         Name::Results => 14,
         Name::List => 15,
         Name::Chain => 16,
+        Name::In => 17,
     }
 }
 

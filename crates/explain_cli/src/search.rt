@@ -191,11 +191,13 @@ fn tell_other(text: &mut String, walk: &mut Walk<'_>, word: &str) -> Result<(), 
 /// What is wrong with a word of an import that is no option, by its place among these.
 fn tell_format(text: &mut String, place: usize, word: &str) -> Result<(), AllocError> {
     match (place, word) {
-        (0, "ip-routes" | "ip-monitor" | "ip-json" | "cisco" | "fpm" | "iptables") => Ok(()),
+        (0, "ip-routes" | "ip-monitor" | "ip-json" | "cisco" | "fpm" | "iptables" | "nft") => Ok(
+            (),
+        ),
         (0, _) => {
             writeln!(
                 text,
-                "{word}: ip-routes, ip-monitor, ip-json, cisco, fpm or iptables"
+                "{word}: ip-routes, ip-monitor, ip-json, cisco, fpm, iptables or nft"
             )
         }
         _ => {
@@ -237,7 +239,7 @@ fn tell_missing(text: &mut String, walk: &Walk<'_>) -> Result<(), AllocError> {
         Subcommand::Gen => tell_missing_numbers(text, walk.others),
         Subcommand::Import if walk.others == 0 => {
             text.push_str(
-                "import: FORMAT is missing: ip-routes, ip-monitor, ip-json, cisco, fpm or iptables\n",
+                "import: FORMAT is missing: ip-routes, ip-monitor, ip-json, cisco, fpm, iptables or nft\n",
             )
         }
         _ => Ok(()),

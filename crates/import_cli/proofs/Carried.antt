@@ -19,10 +19,13 @@ use Rattle.fpm_frames.specs.Imported as frames
 use Rattle.fpm_routes.specs.Telling as messages
 use Rattle.iptables.specs.Telling as chains
 use Rattle.iptables.specs.declared.lines.Hook.{Hook}
+use Rattle.nft_rulesets.specs.declared.asked.Asked.{Asked as ChainAsked}
+use Rattle.nft_rulesets.specs.Texts as rulesets
+use Rattle.import_cli.specs.declared.chain_name.ChainName.{ChainName}
 use Rattle.import_cli.specs.declared.asked.Asked.{Asked}
 use Rattle.import_cli.specs.declared.asked.Asked.TheVariants as asked
 use Rattle.import_cli.specs.declared.asked.Format.{Format}
-use Rattle.import_cli.specs.declared.asked.Format.TheVariants.{IpRoutes, IpMonitor, IpJson, Cisco, Fpm, Iptables}
+use Rattle.import_cli.specs.declared.asked.Format.TheVariants.{IpRoutes, IpMonitor, IpJson, Cisco, Fpm, Iptables, Nft}
 use Rattle.import_cli.specs.CommandLine.{ImportJob, NoJob, Tells, Imports, asked_by}
 use Rattle.import_cli.specs.OwnTexts.{import_help}
 use Rattle.import_cli.specs.Jobs.{no_events, no_lines, no_messages, no_routes, CarriesOut}
@@ -80,11 +83,17 @@ carries-frames format version leave_out known pieces answer o n named is by =
     subst (λ f. CarriesOut (Imports f version leave_out) pieces answer o n) (sym named)
     (subst (λ k. frames.ImportsBy (frames.telling messages.fpm_told messages.fpm_after) (frames.first_standing leave_out k) pieces answer o n) is by)
 
-pub carries-chains : (format : Format) (version : IpVersion) (hook : Hook) (leave_out : Bool) (known : chains.Known) (pieces : List (List ℕ)) (answer : Status) (o n : Option (List ℕ)) → format ≡ Iptables hook → known ≡ chains.nothing_known version hook
+pub carries-chains : (format : Format) (version : IpVersion) (hook : Hook) (face : List ℕ) (leave_out : Bool) (known : chains.Known) (pieces : List (List ℕ)) (answer : Status) (o n : Option (List ℕ)) → format ≡ Iptables hook face → known ≡ chains.nothing_known version hook face
     → ImportsBy (telling chains.line_told chains.line_after chains.save_closing) leave_out known pieces answer o n → CarriesOut (Imports format version leave_out) pieces answer o n
-carries-chains format version hook leave_out known pieces answer o n named is by =
+carries-chains format version hook face leave_out known pieces answer o n named is by =
     subst (λ f. CarriesOut (Imports f version leave_out) pieces answer o n) (sym named)
     (subst (λ k. ImportsBy (telling chains.line_told chains.line_after chains.save_closing) leave_out k pieces answer o n) is by)
+
+pub carries-ruleset : (format : Format) (chain given : ChainName) (version : IpVersion) (leave_out : Bool) (pieces : List (List ℕ)) (answer : Status) (o n : Option (List ℕ)) → format ≡ Nft chain → given ≡ chain
+    → CarriesOut (Imports (Nft given) version leave_out) pieces answer o n → CarriesOut (Imports format version leave_out) pieces answer o n
+carries-ruleset format chain given version leave_out pieces answer o n named is by =
+    subst (λ f. CarriesOut (Imports f version leave_out) pieces answer o n) (sym named)
+    (subst (λ (c : ChainName). CarriesOut (Imports (Nft c) version leave_out) pieces answer o n) is by)
 
 -- what an answer asks for
 pub carried-as : (a b : Asked) (pieces : List (List ℕ)) (answer : Status) (o n : Option (List ℕ)) → a ≡ b → CarriesOut (asked_by b) pieces answer o n → CarriesOut (asked_by a) pieces answer o n
@@ -124,4 +133,14 @@ wanting (Imports IpJson version leave_out) o = Untold (inr refl) (Appends-nil o)
 wanting (Imports (Cisco name) version leave_out) o = none-told (telling lists.cisco_told lists.cisco_after lists.cisco_closing) leave_out (no_lines name leave_out) o
 wanting (Imports Fpm version leave_out) o =
     record { fates = []; part = []; tail = []; are = tt; came = refl; appends = Appends-nil o; ends = refl }
-wanting (Imports (Iptables hook) version leave_out) o = none-told (telling chains.line_told chains.line_after chains.save_closing) leave_out (chains.nothing_known version hook) o
+wanting (Imports (Iptables hook face) version leave_out) o = none-told (telling chains.line_told chains.line_after chains.save_closing) leave_out (chains.nothing_known version hook face) o
+wanting (Imports (Nft chain) version leave_out) o = (
+  record {
+    version = version;
+    family = record { ref_ptr = (0, 0); now = chain.family };
+    table = record { ref_ptr = (0, 0); now = chain.table };
+    chain = record { ref_ptr = (0, 0); now = chain.name };
+  },
+  (refl, refl, refl, refl),
+  rulesets.Untold (inr refl) (Appends-nil o),
+)

@@ -9,6 +9,7 @@ use Rattle.clap.specs.declared.builder.action.ArgAction.TheVariants.{Set, SetTru
 use Rattle.clap.specs.declared.error.kind.ErrorKind.{ErrorKind}
 use Rattle.clap.specs.declared.error.kind.ErrorKind.TheVariants as kind
 use Rattle.rule_model.specs.declared.IpVersion.{IpVersion}
+use Rattle.iptables.specs.Faces.{face_in}
 use Rattle.iptables.specs.declared.lines.Hook.{Hook}
 use Rattle.iptables.specs.declared.lines.Hook.TheVariants.{Input, Forward, Output}
 use Rattle.rule_model.specs.declared.IpVersion.TheVariants.{V4, V6}
@@ -16,7 +17,9 @@ use Rattle.option_words.specs.Options.{has_text, text_of}
 use Rattle.import_cli.specs.declared.asked.Asked.{Asked}
 use Rattle.import_cli.specs.declared.asked.Asked.TheVariants as asked
 use Rattle.import_cli.specs.declared.asked.Format.{Format}
-use Rattle.import_cli.specs.declared.asked.Format.TheVariants.{IpRoutes, IpMonitor, IpJson, Cisco, Fpm, Iptables}
+use Rattle.import_cli.specs.declared.asked.Format.TheVariants.{IpRoutes, IpMonitor, IpJson, Cisco, Fpm, Iptables, Nft}
+use Rattle.import_cli.specs.declared.chain_name.ChainName.{ChainName}
+use Rattle.import_cli.specs.ChainName.{chain_in, input_chain}
 use Rattle.import_cli.specs.ListName.{name_in}
 use Rattle.import_cli.specs.OwnTexts.{import_help}
 
@@ -46,11 +49,15 @@ list_option = record (new_rule (codes "list")) { long = Some (codes "list"); act
 unfoldable pub chain_option : Rule
 chain_option = record (new_rule (codes "chain")) { long = Some (codes "chain"); action = Some Set }
 
+-- --in, a word
+unfoldable pub in_option : Rule
+in_option = record (new_rule (codes "in")) { long = Some (codes "in"); action = Some Set }
+
 -- a subcommand for imports
 unfoldable pub import_app : App
 import_app =
-    with_rule (with_rule (with_rule (with_rule (with_rule (new_app (codes "import")) format_position) version_option) leave_out_flag) list_option)
-    chain_option
+    with_rule (with_rule (with_rule (with_rule (with_rule (with_rule (new_app (codes "import")) format_position) version_option) leave_out_flag) list_option)
+    chain_option) in_option
 
 -- tcam with a required subcommand; help is asked for by its flag alone
 unfoldable pub import_top : App
@@ -68,7 +75,8 @@ format_in name =
     else if bytes_eq name (codes "ip-json") then Some IpJson
     else if bytes_eq name (codes "cisco") then Some (Cisco [])
     else if bytes_eq name (codes "fpm") then Some Fpm
-    else if bytes_eq name (codes "iptables") then Some (Iptables Input)
+    else if bytes_eq name (codes "iptables") then Some (Iptables Input [])
+    else if bytes_eq name (codes "nft") then Some (Nft input_chain)
     else None
 
 -- a format, and the list of this name, where one is asked for: no other format has lists
@@ -82,7 +90,8 @@ with_list IpRoutes list = None
 with_list IpMonitor list = None
 with_list IpJson list = None
 with_list Fpm list = None
-with_list (Iptables hook) list = None
+with_list (Iptables hook face) list = None
+with_list (Nft chain) list = None
 
 abbrev pub list_at : Format → Text → Option Format
 list_at format list = if length list == 0 then Some format else with_list format list
@@ -99,12 +108,17 @@ hook_in name =
     else if bytes_eq name (codes "OUTPUT") then Some Output
     else None
 
-abbrev pub of_hook : Option Hook → Option Format
-of_hook (Some hook) = Some (Iptables hook)
-of_hook None = None
+abbrev pub of_hook : Option Hook → List ℕ → Option Format
+of_hook (Some hook) face = Some (Iptables hook face)
+of_hook None face = None
+
+abbrev pub of_chain : Option ChainName → Option Format
+of_chain (Some chain) = Some (Nft chain)
+of_chain None = None
 
 abbrev pub with_chain : Format → Text → Option Format
-with_chain (Iptables hook) chain = of_hook (hook_in chain)
+with_chain (Iptables hook face) chain = of_hook (hook_in chain) face
+with_chain (Nft input) chain = of_chain (chain_in chain)
 with_chain IpRoutes chain = None
 with_chain IpMonitor chain = None
 with_chain IpJson chain = None
@@ -117,6 +131,32 @@ chain_at format chain = if length chain == 0 then Some format else with_chain fo
 abbrev pub chained_at : Option Format → Text → Option Format
 chained_at None chain = None
 chained_at (Some format) chain = chain_at format chain
+
+-- a format, and the interface of this name, where one is asked for: packets of the chain OUTPUT come in by none, and no other format has interfaces
+abbrev pub hook_face : Hook → List ℕ → Option Format
+hook_face Input face = Some (Iptables Input face)
+hook_face Forward face = Some (Iptables Forward face)
+hook_face Output face = None
+
+abbrev pub of_face : Hook → Option (List ℕ) → Option Format
+of_face hook (Some face) = hook_face hook face
+of_face hook None = None
+
+abbrev pub with_face : Format → Text → Option Format
+with_face (Iptables hook face) name = of_face hook (face_in name)
+with_face IpRoutes name = None
+with_face IpMonitor name = None
+with_face IpJson name = None
+with_face (Cisco list) name = None
+with_face Fpm name = None
+with_face (Nft chain) name = None
+
+abbrev pub face_at : Format → Text → Option Format
+face_at format name = if length name == 0 then Some format else with_face format name
+
+abbrev pub faced_at : Option Format → Text → Option Format
+faced_at None name = None
+faced_at (Some format) name = face_at format name
 
 abbrev pub version_in : Text → Option IpVersion
 version_in digit =
@@ -132,7 +172,8 @@ import_of IpRoutes version leave_out = Imports IpRoutes version leave_out
 import_of IpMonitor version leave_out = Imports IpMonitor version leave_out
 import_of IpJson version leave_out = Imports IpJson version leave_out
 import_of Fpm version leave_out = Imports Fpm version leave_out
-import_of (Iptables hook) version leave_out = Imports (Iptables hook) version leave_out
+import_of (Iptables hook face) version leave_out = Imports (Iptables hook face) version leave_out
+import_of (Nft chain) version leave_out = Imports (Nft chain) version leave_out
 
 -- where the words name a format and a version
 abbrev pub imports_at : Option Format → Option IpVersion → Bool → ImportJob
@@ -143,7 +184,9 @@ imports_at (Some format) (Some version) leave_out = import_of format version lea
 -- what its arguments ask for
 abbrev pub imports_by : List Row → ImportJob
 imports_by rows =
-    imports_at (chained_at (listed_at (format_in (text_of (codes "format") rows)) (text_of (codes "list") rows)) (text_of (codes "chain") rows))
+    imports_at
+    (faced_at (chained_at (listed_at (format_in (text_of (codes "format") rows)) (text_of (codes "list") rows)) (text_of (codes "chain") rows))
+    (text_of (codes "in") rows))
     (version_in (text_of (codes "version") rows))
     (has_text (codes "leave-out") (codes "true") rows)
 

@@ -13,7 +13,10 @@ use Rattle.cisco_lists.specs.Lines as lists
 use Rattle.fpm_frames.specs.Imported as frames
 use Rattle.fpm_routes.specs.Telling as messages
 use Rattle.iptables.specs.Telling as chains
-use Rattle.import_cli.specs.declared.asked.Format.TheVariants.{IpRoutes, IpMonitor, IpJson, Cisco, Fpm, Iptables}
+use Rattle.nft_rulesets.specs.declared.asked.Asked.{Asked}
+use Rattle.nft_rulesets.specs.Texts.{RulesetBy}
+use Rattle.import_cli.specs.declared.chain_name.ChainName.{ChainName}
+use Rattle.import_cli.specs.declared.asked.Format.TheVariants.{IpRoutes, IpMonitor, IpJson, Cisco, Fpm, Iptables, Nft}
 use Rattle.import_cli.specs.CommandLine.{ImportJob, NoJob, Tells, Imports}
 
 -- no line is read yet
@@ -34,7 +37,12 @@ no_lines name leave_out = lists.first_known (named_list name) ((length name == 0
 abbrev pub no_messages : IpVersion → messages.Known
 no_messages version = record { version = version; hops = [] }
 
--- A job is carried out: each line, or frame, of what the source gave is accounted for; or the whole of it is, an array; or nothing is read, and the text is written whole, or
+-- the chain of these names is asked for, and packets of this version
+abbrev pub AsksFor : Asked → ChainName → IpVersion → Type 0
+AsksFor asked chain version =
+    (asked.version ≡ version) × (asked.family.now ≡ chain.family) × (asked.table.now ≡ chain.table) × (asked.chain.now ≡ chain.name)
+
+-- A job is carried out: each line, or frame, of what the source gave is accounted for; or the whole of it is, a text of JSON; or nothing is read, and the text is written whole, or
 -- a part of it where the sink failed, or nothing where memory was wanting.
 abbrev pub CarriesOut : ImportJob → List (List ℕ) → Status → Option (List ℕ) → Option (List ℕ) → Type 0
 CarriesOut NoJob pieces answer old new = (pieces ≡ []) × LastBy (codes "usage\n") status.Usage answer old new
@@ -48,5 +56,7 @@ CarriesOut (Imports (Cisco name) version leave_out) pieces answer old new =
     ImportsBy (telling lists.cisco_told lists.cisco_after lists.cisco_closing) leave_out (no_lines name leave_out) pieces answer old new
 CarriesOut (Imports Fpm version leave_out) pieces answer old new =
     frames.ImportsBy (frames.telling messages.fpm_told messages.fpm_after) (frames.first_standing leave_out (no_messages version)) pieces answer old new
-CarriesOut (Imports (Iptables hook) version leave_out) pieces answer old new =
-    ImportsBy (telling chains.line_told chains.line_after chains.save_closing) leave_out (chains.nothing_known version hook) pieces answer old new
+CarriesOut (Imports (Iptables hook face) version leave_out) pieces answer old new =
+    ImportsBy (telling chains.line_told chains.line_after chains.save_closing) leave_out (chains.nothing_known version hook face) pieces answer old new
+CarriesOut (Imports (Nft chain) version leave_out) pieces answer old new =
+    (asked : Asked) × AsksFor asked chain version × RulesetBy asked leave_out pieces answer old new

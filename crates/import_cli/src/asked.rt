@@ -3,12 +3,13 @@
 ghost use Rattle.std.specs.Prelude.{◌≡◌, false, Err, IfOk, IfSome, IsErrOf, IsNone, map, string_bytes};
 ghost use Rattle.clap.specs.Words.{app_of, found_of, kind_of, rows_of, rule_of, subcommand_rows_of};
 ghost use Rattle.clap.specs.declared.builder.command.Command.TheViews.{out-Command};
-ghost use Rattle.import_cli.specs.CommandLine.{NoJob, asked_by, chain_at, chain_option, format_in, format_position, hook_in, import_app, import_job, import_job_of, import_job_of_fault, import_line, import_of, imports_by, leave_out_flag, list_at, list_option, version_in, version_option};
+ghost use Rattle.import_cli.specs.CommandLine.{NoJob, asked_by, chain_at, chain_option, face_at, format_in, format_position, hook_face, hook_in, import_app, import_job, import_job_of, import_job_of_fault, import_line, import_of, imports_by, in_option, leave_out_flag, list_at, list_option, version_in, version_option};
 
+use crate::chain_name::ChainName;
 use crate::list_name::ListName;
 use clap::error::ErrorKind;
 use clap::{Arg, ArgAction, ArgMatches, Command, Error};
-use iptables::Hook;
+use iptables::{FaceName, Hook};
 use option_words::{WordsFault, text_of};
 use rule_model::IpVersion;
 use std::alloc::{AllocError, Global};
@@ -26,8 +27,11 @@ pub enum Format {
     Cisco(ListName),
     /// The frames of a routing daemon's FPM stream.
     Fpm,
-    /// The lines of `iptables-save`, of which this chain is told.
-    Iptables(Hook),
+    /// The lines of `iptables-save`, of which this chain is told, for the packets that come in by this interface, or by any where
+    /// it has no name.
+    Iptables(Hook, FaceName),
+    /// The ruleset of `nft -j list ruleset`, of which this chain is told.
+    Nft(ChainName),
 }
 
 /// What a command line asks for.
@@ -91,6 +95,14 @@ fn chain_arg<'a>(alloc: Global) -> Arg<'a>
         .action(ArgAction::Set)
 }
 
+/// The interface by which packets come in.
+fn in_arg<'a>(alloc: Global) -> Arg<'a>
+    ensures rule { rule_of result ≡ in_option }
+    ensures global { result.global ≡ false }
+{
+    Arg::new(alloc, "in").long("in").action(ArgAction::Set)
+}
+
 /// The subcommand for imports.
 fn import_command<'a>(alloc: Global) -> Result<Command<'a>, AllocError>
     ensures app { IfOk result (λ c. app_of c ≡ import_app) }
@@ -102,7 +114,8 @@ fn import_command<'a>(alloc: Global) -> Result<Command<'a>, AllocError>
             .arg(version_arg(alloc))?
             .arg(leave_out_arg(alloc))?
             .arg(list_arg(alloc))?
-            .arg(chain_arg(alloc))?,
+            .arg(chain_arg(alloc))?
+            .arg(in_arg(alloc))?,
     )
 }
 
@@ -157,7 +170,8 @@ fn job_of_import(found: &ArgMatches) -> Option<Asked>
         format_named(text_of(found, "format"))?,
         text_of(found, "list"),
     )?;
-    let format = chain_of(listed, text_of(found, "chain"))?;
+    let chained = chain_of(listed, text_of(found, "chain"))?;
+    let format = face_of(chained, text_of(found, "in"))?;
     let version = version_named(text_of(found, "version"))?;
     import_of(format, version, text_of(found, "leave-out") == "true")
 }
@@ -189,8 +203,13 @@ fn import_of(format: Format, version: IpVersion, leave_out: bool) -> Option<Aske
             version,
             leave_out,
         }),
-        Format::Iptables(hook) => Some(Asked::Import {
-            format: Format::Iptables(hook),
+        Format::Iptables(hook, face) => Some(Asked::Import {
+            format: Format::Iptables(hook, face),
+            version,
+            leave_out,
+        }),
+        Format::Nft(chain) => Some(Asked::Import {
+            format: Format::Nft(chain),
             version,
             leave_out,
         }),
@@ -233,8 +252,34 @@ fn chain_of(format: Format, chain: &str) -> Option<Format>
         return Some(format);
     }
     match format {
-        Format::Iptables(_) => Some(Format::Iptables(hook_named(chain)?)),
+        Format::Iptables(_, face) => Some(Format::Iptables(hook_named(chain)?, face)),
+        Format::Nft(_) => Some(Format::Nft(ChainName::new(chain)?)),
         _ => None,
+    }
+}
+
+/// A format, and the interface of this name, which is empty where none is asked for: packets of the chain OUTPUT come in by
+/// none, and no other format has interfaces.
+fn face_of(format: Format, name: &str) -> Option<Format>
+    ensures { result ≡ face_at format name.now }
+{
+    if name.is_empty() {
+        return Some(format);
+    }
+    match format {
+        Format::Iptables(hook, _) => hook_face(hook, FaceName::new(name.as_bytes())?),
+        _ => None,
+    }
+}
+
+/// The packets of a chain that come in by an interface.
+fn hook_face(hook: Hook, face: FaceName) -> Option<Format>
+    ensures { result ≡ hook_face hook face }
+{
+    match hook {
+        Hook::Output => None,
+        Hook::Input => Some(Format::Iptables(Hook::Input, face)),
+        Hook::Forward => Some(Format::Iptables(Hook::Forward, face)),
     }
 }
 
@@ -248,7 +293,8 @@ fn format_named(name: &str) -> Option<Format>
         "ip-json" => Some(Format::IpJson),
         "cisco" => Some(Format::Cisco(ListName::none())),
         "fpm" => Some(Format::Fpm),
-        "iptables" => Some(Format::Iptables(Hook::Input)),
+        "iptables" => Some(Format::Iptables(Hook::Input, FaceName::none())),
+        "nft" => Some(Format::Nft(ChainName::input())),
         _ => None,
     }
 }

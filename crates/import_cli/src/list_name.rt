@@ -47,7 +47,7 @@ impl ListName {
     }
 
     /// A name that isn't longer.
-    fn of(name: &[u8]) -> ListName
+    pub(crate) fn of(name: &[u8]) -> ListName
         requires { length name.now ≤ 64 }
         ensures { result ≡ name.now }
     {

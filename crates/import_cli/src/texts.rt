@@ -14,16 +14,19 @@ tcam import: reads what another program prints, and writes a script.
     tcam import cisco --list EDGE < lists.conf | tcam acl
     nc -l -p 2620 | tcam import fpm | tcam route --trace
     iptables-save | tcam import iptables --chain INPUT | tcam acl
+    nft -j list ruleset | tcam import nft --chain 'ip t in' | tcam acl
 
     tcam import FORMAT [--version V] [--leave-out] [--list NAME] [--chain C]
+        [--in NAME]
 
 FORMAT is ip-routes: the lines of ip -o route show, of one table; ip-monitor:
 those of ip -o monitor route, each a commit; ip-json: the array of
 ip -j route show, an item a route; cisco: extended lists of Cisco IOS and
 Arista EOS, of which one is taken; fpm: what zebra sends with its module
-dplane_fpm_nl, a frame a commit; or iptables: the lines of iptables-save, of
-whose table filter one chain is taken. Where packets of a route go gets a
-number, which a comment tells before its first use.
+dplane_fpm_nl, a frame a commit; iptables: the lines of iptables-save, of whose
+table filter one chain is taken; or nft: the ruleset of nft -j list ruleset, of
+which one chain is taken. Where packets of a route go gets a number, which a
+comment tells before its first use.
 
 Each line, item or frame is said, or the script ends at it: its last line has
 the number of it, why it can't be said, and the word. No commit follows, and no
@@ -35,12 +38,16 @@ Options:
                     and how many of them there are stands at the end
     --list NAME     the list of cisco, by default the only one
     --chain C       the chain of iptables, INPUT, FORWARD or OUTPUT, by default
-                    INPUT
+                    INPUT; of nft the family and the name of its table and its
+                    own name, by default 'inet filter input'
+    --in NAME       of INPUT or FORWARD the packets that come in by this
+                    interface, by default by any
 
 Exit status:
     0   the input was read to its end
     2   a line, an item or a frame can't be said, a line is too long or has a
-        bad byte, the input is no array, or what should end it is wanting
+        bad byte, the input is no array or ruleset, what should end it is
+        wanting, or there is no list
     3   standard input could not be read
     4   standard output could not be written
     6   memory is wanting

@@ -7,6 +7,7 @@ ghost use Rattle.import_cli.specs.CommandLine.{Imports, asked_by, import_job};
 ghost use Rattle.import_cli.specs.Jobs.{CarriesOut, no_lines};
 
 use crate::asked::{Asked, Format, read_words};
+use crate::chain_name::ChainName;
 use crate::list_name::ListName;
 use crate::texts::{IMPORT_HELP, USAGE};
 use cisco_lists::CiscoList;
@@ -17,6 +18,7 @@ use ip_monitor::IpMonitor;
 use ip_routes::IpRoutes;
 use iptables::Iptables;
 use json_routes::import_json;
+use nft_rulesets::import_nft;
 use option_words::WordsFault;
 use rule_model::IpVersion;
 use script_lines::{Sink, Source};
@@ -116,16 +118,40 @@ fn carry_import<S: Source, K: Sink>(
                 sink,
             )
         }
-        Format::Iptables(hook) => {
+        Format::Iptables(hook, face) => {
             import(
                 alloc,
-                Iptables::new(alloc, version, hook),
+                Iptables::new(alloc, version, hook, face),
                 leave_out,
                 source,
                 sink,
             )
         }
+        Format::Nft(chain) => import_chain(alloc, &chain, version, leave_out, source, sink),
     }
+}
+
+/// Imports a chain of a ruleset.
+fn import_chain<S: Source, K: Sink>(
+    alloc: Global,
+    chain: &ChainName,
+    version: IpVersion,
+    leave_out: bool,
+    source: &mut S,
+    sink: &mut K,
+) -> Status
+    ensures job { (pieces : List (List ℕ)) × GivesPieces (S.given source.old) (S.given source.new) (S.left source.old) (S.left source.new) pieces
+        × ((which : Bool) → CarriesOut (Imports (Format.Nft chain.now) version leave_out) pieces result (counted which (K.taken sink.old) (K.accepted sink.old)) (counted which (K.taken sink.new) (K.accepted sink.new))) }
+    ensures read { IsCounted (result ≡ Status.ReadFault) (S.faults source.old) (S.faults source.new) }
+    ensures written { IsCounted (result ≡ Status.WriteFault) (K.faults sink.old) (K.faults sink.new) }
+{
+    let asked = nft_rulesets::Asked {
+        version,
+        family: chain.family.as_bytes(),
+        table: chain.table.as_bytes(),
+        chain: chain.name.as_bytes(),
+    };
+    import_nft(alloc, &asked, leave_out, source, sink)
 }
 
 /// The list of this name, or the only one where it is empty. A second one may be left out.

@@ -1,8 +1,8 @@
-use Rattle.std.proofs.Common.{[]}
+use Rattle.std.proofs.Common.{[], refl}
 use Rattle.script_lines.specs.Given.{counted}
 use Rattle.script_lines.proofs.Turns.{gives-none}
 use Rattle.import_cli.specs.CommandLine.{Imports}
-use Rattle.import_cli.proofs.Carried.{carries-routes, carries-events, carries-json, carries-list, carries-frames, carries-chains, wanting}
+use Rattle.import_cli.proofs.Carried.{carries-routes, carries-events, carries-json, carries-list, carries-frames, carries-chains, carries-ruleset, wanting}
 use Rattle.import_cli.proofs.top.carry_import.Goals as goal
 
 pub returns-in-IpRoutes-clause-job : goal.returns-in-IpRoutes-clause-job
@@ -37,4 +37,9 @@ returns-in-Fpm-clause-job g c =
 pub returns-in-Iptables-clause-job : goal.returns-in-Iptables-clause-job
 returns-in-Iptables-clause-job g c =
     let by = c.import-in-Iptables.ensures.imports in
-    (by.0, by.1, λ which. carries-chains _ _ _ _ _ _ _ _ _ c.in-Iptables.is c.new-in-Iptables.ensures (by.2 which))
+    (by.0, by.1, λ which. carries-chains _ _ _ _ _ _ _ _ _ _ c.in-Iptables.is c.new-in-Iptables.ensures (by.2 which))
+
+pub returns-in-Nft-clause-job : goal.returns-in-Nft-clause-job
+returns-in-Nft-clause-job g c =
+    let by = c.import_chain.ensures.job in
+    (by.0, by.1, λ which. carries-ruleset _ _ _ _ _ _ _ _ _ c.in-Nft.is refl (by.2 which))
