@@ -6,5 +6,6 @@ pub mod back
 pub mod served
 pub mod restarted
 pub mod Listed
+pub mod Told
 pub mod Made
 pub mod Leaving

@@ -4,6 +4,7 @@ pub mod Meant
 pub mod Parted
 pub mod Few
 pub mod Since
+pub mod Retold
 pub mod Aimed
 pub mod Ended
 pub mod Padded

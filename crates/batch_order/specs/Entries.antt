@@ -1,18 +1,37 @@
 -- The entries that are live, each under an id.
-use Rattle.std.specs.Prelude.{◌≡◌, ℕ, ◌+◌, ◌<◌, ◌≤◌, IsTrue, IsFalse, if◌then◌else◌, Option, Some, None, List, [], ◌∷◌, Contains, ◌++◌, ◌-◌, length, map, drop, nat_eq}
+use Rattle.std.specs.Prelude.{◌≡◌, ℕ, ◌+◌, ◌<◌, ◌≤◌, IsTrue, IsFalse, if◌then◌else◌, Option, Some, None, List, [], ◌∷◌, Contains, ◌++◌, ◌-◌, length, map, drop, nat_eq, ◌⊎◌}
 use Rattle.std.specs.List.{AllByRecursion, IsDistinct}
 use Rattle.slot_order.specs.Order.{most_slots}
 use Rattle.rule_model.specs.declared.words.Entry.{Entry}
 use Rattle.rule_model.specs.Entry.{RankedPiece}
 use Rattle.placement.specs.declared.LivePiece.{LivePiece}
-use Rattle.placement.specs.Live.{AreApart, is_live}
+use Rattle.slot_pool.specs.Arrangement.{Slots}
+use Rattle.placement.specs.Live.{AreApart, Homes, is_live}
+use Rattle.placement.specs.declared.Move.{Move}
+use Rattle.move_planner.specs.Noted.{IsNamed}
+use Rattle.placement.specs.Ready.{AreToldBut}
 use Rattle.commit_writes.specs.Planned.{entry_at}
 
--- the live ids with their pieces, the number that ids are below, and the entry of each id
+-- the live ids with their pieces, the number that ids are below, and the entry of each id; and where the ids stand, by what was
+-- told of them, where that is kept
 pub record Entries : Type 0 where
   pub slots : ℕ
   pub live : List LivePiece
   pub entries : List (Option Entry)
+  pub told : Option Homes
+
+-- where that is kept each live id stands where that was told
+abbrev pub AreTold : Entries → Slots → Type 0
+AreTold kept slots = AreToldBut (λ id. ⊥) kept.live kept.told slots
+
+-- what is told stays right where ids come or go, whatever they stand in
+abbrev pub StayTold : Entries → Entries → Type 0
+StayTold old new = (slots : Slots) → AreTold old slots → AreTold new slots
+
+-- of the ids that some moves name it is told where they stand, and of others nothing
+abbrev pub AreFollowed : Entries → Entries → Slots → List Move → Type 0
+AreFollowed old new slots moves =
+    (others : List Move) → AreToldBut (λ id. IsNamed others id ⊎ IsNamed moves id) old.live old.told slots → AreToldBut (IsNamed others) new.live new.told slots
 
 -- the entries of the ids from one on that are live, by what is kept at each of them
 abbrev pub entries_from : List LivePiece → ℕ → List Entry → List (Option Entry)

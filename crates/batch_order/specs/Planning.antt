@@ -1,5 +1,5 @@
 -- What a plan needs and keeps: entries that stand once and in order, and writes within the slots in use.
-use Rattle.std.specs.Prelude.{◌≡◌, ℕ, ◌+◌, ◌<◌, ◌≤◌, IsTrue, IsSome, Some, List, [], ◌++◌, length, flat_map, fold, map, max, option_map, slice_get}
+use Rattle.std.specs.Prelude.{◌≡◌, ℕ, ◌+◌, ◌^◌, ◌<◌, ◌≤◌, IsTrue, IsSome, Some, List, [], ◌++◌, length, flat_map, fold, map, max, option_map, slice_get}
 use Rattle.std.specs.List.{AllByRecursion}
 use Rattle.slot_order.specs.Order.{most_slots}
 use Rattle.slot_pool.specs.Arrangement.{Slots, home_of}
@@ -21,7 +21,7 @@ use Rattle.batch_order.specs.declared.planned_writes.PlannedWrite.{PlannedWrite}
 use Rattle.batch_order.specs.declared.planned_writes.PlannedWrites.{PlannedWrites}
 use Rattle.batch_order.specs.declared.planned_writes.PlannedWrite.TheVariants.{Tabled, Moved, Rewritten}
 use Rattle.batch_order.specs.ByParts.{insertion_parts, moves_put}
-use Rattle.batch_order.specs.Entries.{Entries, KeepEntries}
+use Rattle.batch_order.specs.Entries.{AreTold, Entries, KeepEntries}
 
 -- the id stands in a slot
 abbrev pub IsStanding : Slots → ℕ → Type 0
@@ -59,11 +59,13 @@ pub record IsSettled (kept : Entries) (slots : Slots) : Type 0 where
   pub order : IsInOrder (is_above kept.live) slots
   pub count : free_slots slots + length kept.live ≡ kept.slots
 
--- and the writes that lead there are within the slots in use, and none is planned yet that comes behind the moves
+-- and the writes that lead there are within the slots in use, none is planned yet that comes behind the moves, and where ids
+-- stand is told
 pub record IsPlannable (kept : Entries) (slots : Slots) (writes : PlannedWrites) : Type 0 where
   pub settled : IsSettled kept slots
   pub within : AllByRecursion (IsWithin kept.slots) (all_writes writes)
   pub no_changes : writes.changes.items ≡ []
+  pub told : AreTold kept slots
 
 -- the others are settled, and this live id is still to be placed
 pub record IsLastLive (kept : Entries) (slots : Slots) (id : ℕ) : Type 0 where
@@ -75,6 +77,7 @@ pub record IsLastLive (kept : Entries) (slots : Slots) (id : ℕ) : Type 0 where
   pub order : IsInOrder (is_above kept.live) slots
   pub count : free_slots slots + length kept.live ≡ kept.slots + 1
   pub room : length kept.live ≤ kept.slots
+  pub told : AreTold kept slots
 
 -- the insertion of a live id was planned: its moves are those of a placement with its aim, and stand behind the other
 -- writes
@@ -118,3 +121,4 @@ pub record AreAllPlanned (before after : Arranged) (plan plan' : Plan) (pieces :
   pub most : plan'.most ≡ between.most
   pub span : plan'.span ≡ between.span
   pub most_parts : plan'.most_parts ≡ between.most_parts
+  pub few : length (all_writes plan'.writes) ≤ 2 ^ 39

@@ -1,5 +1,5 @@
 -- A device that was stopped in a commit: what it shows, the ids that its pieces get again, and what is planned from there.
-use Rattle.std.specs.Prelude.{◌≡◌, ℕ, ◌-◌, ◌+◌, ◌≤◌, ◌<◌, ◌⊎◌, Bool, false, IsTrue, IfSome, None, Some, List, length, drop, take, nat_eq}
+use Rattle.std.specs.Prelude.{◌≡◌, ℕ, ◌-◌, ◌+◌, ◌^◌, ◌≤◌, ◌<◌, ◌⊎◌, Bool, false, IsTrue, IfSome, None, Some, List, length, drop, take, nat_eq}
 use Rattle.std.specs.List.{AllByRecursion, IsDistinct}
 use Rattle.slot_order.specs.Order.{slot, most_slots}
 use Rattle.slot_pool.specs.Arrangement.{Slots}
@@ -114,6 +114,7 @@ pub record IsPlannedOn (placement : Placement) (device_slots : ℕ) (asked : Pro
   pub changed : AllByRecursion (λ rewrite. IsTrue (is_live after.kept.live rewrite.id)) rest.left.rewrites.items
   pub gone : AllByRecursion (λ id. IsTrue (is_live after.kept.live id)) rest.left.erased.items
   pub once : IsDistinct nat_eq rest.left.erased.items
+  pub few_writes : length (all_writes rest.plan.writes) ≤ 2 ^ 39
   pub few_planned : length plan.planned ≤ most_slots
   pub few_rewritten : length rest.left.rewrites.items ≤ most_slots
   pub few_erased : length rest.left.erased.items ≤ most_slots

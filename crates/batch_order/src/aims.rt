@@ -3,6 +3,7 @@
 ghost use Rattle.std.specs.Prelude.{◌≡◌, ◌+◌, ◌<◌, ◌≤◌};
 ghost use Rattle.rule_store.specs.Verdict.{entries_of};
 ghost use Rattle.batch_order.specs.Placing as placing;
+ghost use Rattle.placement.specs.Placement.{rank_slot};
 
 use crate::Placement;
 use commit_writes::Ranked;
@@ -36,15 +37,24 @@ pub(crate) fn aim_of(
     let before = rules.entries_above(mode, ranked.rank) as u32 + place;
     match placement {
         Placement::Middle => Aim::Middle,
-        Placement::Rank => Aim::At(rank_slot(slots, before, all)),
+        Placement::Rank => Aim::At(slot_by_rank(slots, before, all)),
         Placement::Ends => {
             if spreads(slots, stood, all) {
-                Aim::At(rank_slot(spread_over(slots, all), before, all))
+                Aim::At(slot_by_rank(spread_over(slots, all), before, all))
             } else {
                 end_or_rank(slots, rules, before, all, ranked.rank)
             }
         }
     }
+}
+
+/// The slot by rank of an entry with so many before it, of so many in all.
+fn slot_by_rank(slots: u32, before: u32, all: u32) -> u32
+    requires few { slots ≤ MOST_SLOTS }
+    requires before { before < all }
+    ensures { result ≡ rank_slot slots before all }
+{
+    rank_slot(slots, before, all) as u32
 }
 
 /// Whether a commit inserts more entries than stood, and more than a 64th of the slots.
@@ -79,7 +89,7 @@ fn end_or_rank(slots: u32, rules: &Store, before: u32, all: u32, rank: Rank) -> 
     } else if !has_higher(rules, rank) {
         Aim::End
     } else {
-        Aim::At(rank_slot(slots, before, all))
+        Aim::At(slot_by_rank(slots, before, all))
     }
 }
 

@@ -1,19 +1,23 @@
 //! The entries that are live, each under an id.
 
-ghost use Rattle.std.specs.Prelude.{◌≡◌, ◌<◌, ◌≤◌, ◌+◌, ◌∷◌, ◌++◌, ℕ, IsTrue, IsFalse, IsNone, IsOk, IfSome, IfOk, OnOk, OnErr, Some, None, Contains, length, nat_eq, replicate, slice_set, slice_index_or, vec_capacity};
+ghost use Rattle.std.specs.Prelude.{◌≡◌, ◌<◌, ◌≤◌, ◌+◌, ◌∷◌, ◌++◌, ℕ, IsTrue, IsFalse, IsNone, IsOk, IfSome, IfOk, OnOk, OnErr, Some, None, Contains, drop, length, nat_eq, replicate, slice_set, slice_index_or, vec_capacity};
 ghost use Rattle.std.specs.List.{AllByRecursion, IsDistinct};
 ghost use Rattle.rule_model.specs.Entry as words;
 ghost use Rattle.rule_model.specs.Entry.{IsEncodable};
 ghost use Rattle.placement.specs.declared.LivePiece.{LivePiece};
-ghost use Rattle.placement.specs.Live.{AreApart, is_live, without_id};
+ghost use Rattle.placement.specs.Live.{AreApart, IsToldAt, MayTell, is_live, without_id};
+ghost use Rattle.slot_pool.specs.Arrangement.{home_of};
 ghost use Rattle.commit_writes.specs.Planned.{entry_at};
 ghost use Rattle.commit_writes.specs.PlannedBatch.{rewritten_entries, erased_live};
-ghost use Rattle.batch_order.specs.Entries.{AreAll, KeepEntries};
+ghost use Rattle.batch_order.specs.Entries.{AreAll, AreFollowed, KeepEntries, StayTold};
 
 use commit_writes::Rewrite;
+use move_planner::Moves;
 use overlap_index::Index;
+use placement::Move;
 use rule_model::{Entry, LANES, Piece, Rank, Word, entry_of};
 use slot_order::MOST_SLOTS;
+use slot_pool::Arrangement;
 use std::alloc::{AllocError, Global};
 use std::marker::Model;
 
@@ -33,7 +37,7 @@ impl Model for LiveEntries {
 
     ghost Value = { Entries };
 
-    ghost view = { λ l. record { slots = l.index.slots; live = l.index.live; entries = live_entries l.index.live l.entries.items } };
+    ghost view = { λ l. record { slots = l.index.slots; live = l.index.live; entries = live_entries l.index.live l.entries.items; told = l.index.told } };
 
     ghost invariant = { λ l. AreKept l.index.slots l.index.live (live_entries l.index.live l.entries.items) l.spare.items × (l.index.slots ≤ vec_capacity l.spare) };
 }
@@ -41,11 +45,11 @@ impl Model for LiveEntries {
 impl LiveEntries {
     ghost use Rattle.std.specs.Prelude.{[], IfOk, ◌≡◌};
 
-    /// No entry, with ids for so many, 1 to 4,096.
+    /// No entry, with ids for so many, 1 to `MOST_SLOTS`.
     pub(crate) fn new(alloc: Global, slots: u32) -> Result<LiveEntries, AllocError>
         requires least { 1 ≤ slots }
         requires most { slots ≤ MOST_SLOTS }
-        ensures { IfOk result (λ made. made ≡ record { slots = slots; live = []; entries = replicate slots None }) }
+        ensures { IfOk result (λ made. made ≡ record { slots = slots; live = []; entries = replicate slots None; told = made.told }) }
     {
         let index = Index::new(alloc, slots)?;
         let entries = places_for(alloc, slots)?;
@@ -61,6 +65,7 @@ impl LiveEntries {
     pub(crate) fn index(&self) -> &Index
         ensures slots { result.now.slots ≡ self.now.slots }
         ensures live { result.now.live ≡ self.now.live }
+        ensures told { result.now.told ≡ self.now.told }
     {
         &self.index
     }
@@ -94,6 +99,7 @@ impl LiveEntries {
         ensures entries { IfOk result (λ id. self.new.entries ≡ slice_set self.old.entries id (Some (words.entry_of piece.now tag answer))) }
         ensures entry { IfOk result (λ id. entry_at self.new.entries id ≡ Some (words.entry_of piece.now tag answer)) }
         ensures slots { self.new.slots ≡ self.old.slots }
+        ensures told { IfOk result (λ id. MayTell self.old.told id self.new.told) }
         ensures refused { OnErr result (self.new ≡ self.old) }
     {
         let id = self.spare[self.spare.len() - 1];
@@ -117,6 +123,7 @@ impl LiveEntries {
         ensures live { self.new.live ≡ self.old.live }
         ensures entries { self.new.entries ≡ rewritten_entries self.old.entries rewrites.now }
         ensures slots { self.new.slots ≡ self.old.slots }
+        ensures told { self.new.told ≡ self.old.told }
     {
         for rewrite in rewrites {
             self.rewrite(rewrite);
@@ -129,6 +136,7 @@ impl LiveEntries {
         ensures live { self.new.live ≡ self.old.live }
         ensures entries { self.new.entries ≡ slice_set self.old.entries rewrite.now.id (Some rewrite.now.entry) }
         ensures slots { self.new.slots ≡ self.old.slots }
+        ensures told { self.new.told ≡ self.old.told }
     {
         self.entries[rewrite.id as usize] = rewrite.entry;
     }
@@ -140,6 +148,7 @@ impl LiveEntries {
         ensures live { self.new.live ≡ erased_live self.old.live ids.now }
         ensures kept { KeepEntries self.new.live self.old.entries self.new.entries }
         ensures slots { self.new.slots ≡ self.old.slots }
+        ensures told { StayTold self.old self.new }
     {
         for id in ids {
             self.forget(*id);
@@ -153,9 +162,39 @@ impl LiveEntries {
         ensures live { self.new.live ≡ without_id self.old.live id }
         ensures entries { self.new.entries ≡ slice_set self.old.entries id None }
         ensures slots { self.new.slots ≡ self.old.slots }
+        ensures told { StayTold self.old self.new }
     {
         self.index.remove(id);
         self.spare.push_reserved(id);
+    }
+
+    /// Tells where the ids stand that some moves put somewhere, from a move on. What a move's slot held before is named by
+    /// what takes it back.
+    pub(crate) fn follow(&mut self, arrangement: &Arrangement, moves: &Moves, from: u64)
+        ensures live { self.new.live ≡ self.old.live }
+        ensures entries { self.new.entries ≡ self.old.entries }
+        ensures slots { self.new.slots ≡ self.old.slots }
+        ensures told { AreFollowed self.old self.new arrangement.now (drop from moves.now) }
+    {
+        for place in from..moves.len() {
+            if let Move::Put(_, id) = moves.at(place) {
+                self.tell(arrangement, id);
+            }
+        }
+    }
+
+    /// Tells where an id stands, if it is live.
+    pub(crate) fn tell(&mut self, arrangement: &Arrangement, id: u32)
+        ensures live { self.new.live ≡ self.old.live }
+        ensures entries { self.new.entries ≡ self.old.entries }
+        ensures slots { self.new.slots ≡ self.old.slots }
+        ensures told { IsTrue (is_live self.old.live id) → IsToldAt self.old.told id (home_of arrangement.now id) self.new.told }
+        ensures same { IsFalse (is_live self.old.live id) → self.new.told ≡ self.old.told }
+    {
+        let _slots = arrangement.slots();
+        if self.index.is_live(id) {
+            self.index.stand(id, arrangement.home(id));
+        }
     }
 }
 

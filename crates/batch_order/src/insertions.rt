@@ -6,7 +6,7 @@ ghost use Rattle.rule_store.specs.Verdict.{entries_of};
 ghost use Rattle.rule_model.specs.Entry.{IsEncodable};
 ghost use Rattle.placement.specs.Live.{is_live};
 ghost use Rattle.batch_order.specs.ByParts.{moves_put};
-ghost use Rattle.batch_order.specs.Entries.{AddsIds, AreLast, KeepEntries};
+ghost use Rattle.batch_order.specs.Entries.{AddsIds, AreLast, AreTold, KeepEntries, StayTold};
 ghost use Rattle.batch_order.specs.Noting.{AreNotedIn};
 ghost use Rattle.batch_order.specs.Placing.{aims_from, aims_of, ranks_of};
 ghost use Rattle.batch_order.specs.Planning.{IsPlannable, IsLastLive, IsWithin, IsInserted, ArePlannedSince, all_writes};
@@ -16,13 +16,16 @@ use crate::aims::aim_of;
 use crate::entries::LiveEntries;
 use crate::plan::Plan;
 use commit_writes::Ranked;
-use move_planner::{Moves, plan_insert};
+use move_planner::{Insert, Moves, plan_insert};
 use placement::{Aim, Move};
 use rule_model::Rank;
 use rule_store::{Mode, Store};
 use slot_order::MOST_SLOTS;
 use slot_pool::Arrangement;
 use std::alloc::{AllocError, Global};
+
+/// The most writes of an insertion that a plan takes.
+const INSERTION_WRITES: u64 = 0x4000_0000;
 
 /// Plans an insertion for each piece that a commit puts into a set, in their order and with the aims of the placement,
 /// and answers the ids of their entries. On want of memory the live entries are as they were, and the arrangement is as the
@@ -49,6 +52,7 @@ pub(crate) fn plan_additions(
     ensures refused { OnErr result (live.new.live ≡ live.old.live) }
     ensures kept { KeepEntries live.old.live live.old.entries live.new.entries }
     ensures slots { live.new.slots ≡ live.old.slots }
+    ensures told { AreTold live.new arrangement.new }
     ensures noted { AreNotedIn arrangement.old arrangement.new plan.old plan.new }
 {
     plan_more(
@@ -89,6 +93,7 @@ pub(crate) fn plan_more(
     ensures refused { OnErr result (live.new.live ≡ live.old.live) }
     ensures kept { KeepEntries live.old.live live.old.entries live.new.entries }
     ensures slots { live.new.slots ≡ live.old.slots }
+    ensures told { AreTold live.new arrangement.new }
     ensures noted { AreNotedIn arrangement.old arrangement.new plan.old plan.new }
 {
     let slots = arrangement.slots();
@@ -145,6 +150,7 @@ pub(crate) fn forget_all(live: &mut LiveEntries, mut ids: Vec<u32>)
     ensures live { live.new.live ≡ take (length live.old.live - length ids.items) live.old.live }
     ensures kept { KeepEntries live.new.live live.old.entries live.new.entries }
     ensures slots { live.new.slots ≡ live.old.slots }
+    ensures told { StayTold live.old live.new }
 {
     while let Some(id) = ids.pop() {
         live.forget(id);
@@ -172,6 +178,7 @@ fn plan_piece(
     ensures refused { OnErr result (live.new.live ≡ live.old.live) }
     ensures kept { KeepEntries live.old.live live.old.entries live.new.entries }
     ensures slots { live.new.slots ≡ live.old.slots }
+    ensures told { AreTold live.new arrangement.new }
     ensures noted { AreNotedIn arrangement.old arrangement.new plan.old plan.new }
 {
     let id = live.add(&ranked.piece, ranked.rank, ranked.result)?;
@@ -191,23 +198,28 @@ fn plan_moves(
     id: u32,
     aim: Aim,
     coming: &[Rank],
-    live: &LiveEntries,
+    live: &mut LiveEntries,
     arrangement: &mut Arrangement,
     plan: &mut Plan,
 ) -> Result<(), AllocError>
-    requires new { IsLastLive live.now arrangement.old id }
+    requires new { IsLastLive live.old arrangement.old id }
     requires coming { length coming.now ≤ MOST_SLOTS }
-    requires within { AllByRecursion (IsWithin live.now.slots) (all_writes plan.old.writes) }
+    requires within { AllByRecursion (IsWithin live.old.slots) (all_writes plan.old.writes) }
     requires no_changes { plan.old.writes.changes.items ≡ [] }
-    ensures plannable { OnOk result (IsPlannable live.now arrangement.new plan.new.writes) }
-    ensures inserted { OnOk result (IsInserted live.now arrangement.old arrangement.new (record { aim = aim; coming = coming.now }) id plan.old plan.new) }
+    ensures plannable { OnOk result (IsPlannable live.new arrangement.new plan.new.writes) }
+    ensures inserted { OnOk result (IsInserted live.old arrangement.old arrangement.new (record { aim = aim; coming = coming.now }) id plan.old plan.new) }
+    ensures live { live.new.live ≡ live.old.live }
+    ensures entries { live.new.entries ≡ live.old.entries }
+    ensures slots { live.new.slots ≡ live.old.slots }
+    ensures told { AreTold live.new arrangement.new }
     ensures noted { AreNotedIn arrangement.old arrangement.new plan.old plan.new }
 {
     let first = plan.writes.moves.len();
+    let noted = plan.undo.moves.len();
     let moves = &mut plan.writes.moves;
     let undo = &mut plan.undo.moves;
     let sides = &mut plan.sides;
-    let insert = plan_insert(
+    let planned = plan_insert(
         alloc,
         arrangement,
         live.index(),
@@ -217,9 +229,24 @@ fn plan_moves(
         moves,
         undo,
         sides,
-    )?;
+    );
+    live.follow(arrangement, &plan.writes.moves, first);
+    live.follow(arrangement, &plan.undo.moves, noted);
+    let insert = planned?;
+    keep_short(insert)?;
     let puts = puts_from(&plan.writes.moves, first);
     plan.count(insert, puts);
+    Ok(())
+}
+
+/// Refuses an insertion of more moves than a plan takes of one, as for want of memory: these take 12 GiB, and as many
+/// to restore them.
+fn keep_short(insert: Insert) -> Result<(), AllocError>
+    ensures { OnOk result (insert.writes ≤ 2 ^ 30) }
+{
+    if insert.writes > INSERTION_WRITES {
+        return Err(AllocError);
+    }
     Ok(())
 }
 

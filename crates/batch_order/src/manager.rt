@@ -73,6 +73,7 @@ impl Model for Manager {
     ghost use Rattle.batch_order.specs.Managed.{Managed};
     ghost use Rattle.batch_order.specs.Kept.{IsManaged, bits_of, held_of, mode_of, state_of};
     ghost use Rattle.batch_order.specs.Undoing.{StandsAt};
+    ghost use Rattle.batch_order.specs.Entries.{AreTold};
 
     ghost Value = { Managed };
 
@@ -86,11 +87,11 @@ impl Model for Manager {
       held = option_map (held_of m.translation m.arrangement m.rules.rules m.live.entries) m.held;
     } };
 
-    ghost invariant = { λ m. IsManaged m.translation m.rules m.live m.arrangement m.held × StandsAt m.arrangement m.planned m.held };
+    ghost invariant = { λ m. IsManaged m.translation m.rules m.live m.arrangement m.held × StandsAt m.arrangement m.planned m.held × AreTold m.live m.planned };
 }
 
 impl Manager {
-    /// A manager of a blank device with so many slots in use, 1 to 4,096, and no rules. By `Cover` a rule takes an entry for
+    /// A manager of a blank device with so many slots in use, 1 to `MOST_SLOTS`, and no rules. By `Cover` a rule takes an entry for
     /// each pair of blocks of its port ranges; by `Bits` it takes one, and each range that isn't one block takes a bit of its
     /// field's translation table. Each insertion aims where the placement says. It fails only for want of memory.
     ///
@@ -248,7 +249,7 @@ impl Manager {
         ensures fits { OnOk result (slots_verdict self.now.slots self.now.mode self.now.rules batch.now ≡ Accepted) }
         ensures short { IfErr result (λ rejection. judgement (slots_verdict self.now.slots self.now.mode self.now.rules batch.now) ≡ Err rejection) }
     {
-        // A batch has 12,288 commands at most, so the number fits.
+        // A batch has `BATCH_COMMANDS` at most, so the number fits.
         let _commands = batch.len();
         let need = self.rules.entries_added(encoding(&self.translation), batch) as u32;
         let free = self.planned.free_count();
@@ -284,7 +285,7 @@ impl Manager {
             &mut self.planned,
             &mut plan,
         )?;
-        erase_all(&mut self.planned, &parts.erased);
+        erase_all(&mut self.live, &mut self.planned, &parts.erased);
         let counts = plan.counts();
         self.held = Some(Held {
             prepared: true,

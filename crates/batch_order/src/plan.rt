@@ -6,10 +6,12 @@ ghost use Rattle.commit_writes.specs.declared.Rewrite.{Rewrite};
 ghost use Rattle.commit_writes.specs.Planned.{IdEntries};
 ghost use Rattle.commit_writes.specs.PlannedBatch.{erase_write, erased_slots, rewrite_write};
 ghost use Rattle.batch_order.specs.ByParts.{insertion_parts};
+ghost use Rattle.batch_order.specs.Entries.{AreTold};
 ghost use Rattle.batch_order.specs.Planning.{IsStanding, IsWithin, as_writes, all_writes};
 ghost use Rattle.batch_order.specs.Noting.{GainsAtHome, HasSameNotes, IsUnnoted, changed_ids, changes_back, put_at_home};
 
 use crate::Done;
+use crate::entries::LiveEntries;
 use crate::parts::CommitParts;
 use crate::planned_writes::{PlannedWrite, PlannedWrites};
 use crate::undoing::PlannedUndo;
@@ -19,6 +21,9 @@ use placement::Move;
 use slot_order::MOST_SLOTS;
 use slot_pool::Arrangement;
 use std::alloc::{AllocError, Global};
+
+/// The most writes of a commit.
+const COMMIT_WRITES: u64 = 0x80_0000_0000;
 
 /// The writes of a commit still to make, how many of them are words of the tables, the writes of its longest insertion,
 /// and the greatest span of one.
@@ -62,7 +67,8 @@ impl Plan {
     /// Counts an insertion whose writes were pushed, of which so many put an entry somewhere. By parts each of these takes
     /// two into an empty slot and three over another entry, each erase takes one, and one slot more is filled than emptied.
     pub(crate) fn count(&mut self, insert: Insert, puts: u32)
-        requires { 3 * puts < 2 ^ 32 }
+        requires few { insert.writes < 2 ^ 32 }
+        requires few_puts { 3 * puts < 2 ^ 32 }
         ensures writes { self.new.writes ≡ self.old.writes }
         ensures undo { self.new.undo ≡ self.old.undo }
         ensures words { self.new.words ≡ self.old.words }
@@ -70,7 +76,7 @@ impl Plan {
         ensures span { self.new.span ≡ max self.old.span insert.span }
         ensures most_parts { self.new.most_parts ≡ max self.old.most_parts (insertion_parts puts) }
     {
-        self.most = self.most.max(insert.writes);
+        self.most = self.most.max(insert.writes as u32);
         self.span = self.span.max(insert.span);
         let parts = (3 * puts).saturating_sub(1);
         self.most_parts = self.most_parts.max(parts);
@@ -110,6 +116,7 @@ pub(crate) fn plan_changes(
     ensures span { OnOk result (plan.new.span ≡ plan.old.span) }
     ensures most_parts { OnOk result (plan.new.most_parts ≡ plan.old.most_parts) }
     ensures at_home { OnOk result (GainsAtHome arrangement.now (changed_ids parts.now.rewrites.items parts.now.erased.items) plan.old.writes.changes.items plan.new.writes.changes.items) }
+    ensures few { OnOk result (length (all_writes plan.new.writes) ≤ 2 ^ 39) }
     ensures noted { OnOk result (plan.new.undo.changes ≡ plan.old.undo.changes ++ changes_back arrangement.now parts.now.rewrites.items parts.now.erased.items) }
     ensures others { HasSameNotes plan.old plan.new }
 {
@@ -117,6 +124,18 @@ pub(crate) fn plan_changes(
     let undo = &mut plan.undo.changes;
     plan_rewrites(&parts.rewrites, arrangement, changes, undo)?;
     plan_erases(&parts.erased, arrangement, changes, undo)?;
+    keep_few(&plan.writes)?;
+    Ok(())
+}
+
+/// Refuses a plan of more writes than a commit has at most, as for want of memory: these alone take 6 TiB, and as many to
+/// restore them.
+fn keep_few(writes: &PlannedWrites) -> Result<(), AllocError>
+    ensures { OnOk result (length (all_writes writes.now) ≤ 2 ^ 39) }
+{
+    if writes.len() as u64 > COMMIT_WRITES {
+        return Err(AllocError);
+    }
     Ok(())
 }
 
@@ -165,14 +184,19 @@ fn plan_erases(
     Ok(())
 }
 
-/// Erases some ids, each of which stands in a slot, in the least one that holds it.
-pub(crate) fn erase_all(arrangement: &mut Arrangement, ids: &[u32])
+/// Erases some ids, each of which stands in a slot, in the least one that holds it, and tells where they stand now.
+pub(crate) fn erase_all(live: &mut LiveEntries, arrangement: &mut Arrangement, ids: &[u32])
     requires distinct { IsDistinct nat_eq ids.now }
     requires standing { AllByRecursion (IsStanding arrangement.old) ids.now }
-    ensures { arrangement.new ≡ erased_slots arrangement.old ids.now }
+    ensures slots { arrangement.new ≡ erased_slots arrangement.old ids.now }
+    ensures live { live.new.live ≡ live.old.live }
+    ensures entries { live.new.entries ≡ live.old.entries }
+    ensures number { live.new.slots ≡ live.old.slots }
+    ensures told { AreTold live.old arrangement.old → AreTold live.new arrangement.new }
 {
     for id in ids {
         let slot = arrangement.home(*id).unwrap();
         arrangement.erase(slot);
+        live.tell(arrangement, *id);
     }
 }

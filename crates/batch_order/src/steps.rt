@@ -155,7 +155,7 @@ impl Manager {
         match self.held.take() {
             None => {}
             Some(held) => {
-                held.undo.take_back(&mut self.planned);
+                held.undo.take_back(&mut self.live, &mut self.planned);
                 forget_all(&mut self.live, held.ids);
             }
         }
@@ -245,7 +245,7 @@ impl Manager {
             None => Step::Idle,
             Some(held) => {
                 let undone = held.turned.unwrap_or(0) as u64;
-                held.undo.take_back(&mut self.planned);
+                held.undo.take_back(&mut self.live, &mut self.planned);
                 forget_all(&mut self.live, held.ids);
                 Step::Reverted(undone)
             }

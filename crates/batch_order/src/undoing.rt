@@ -4,15 +4,19 @@
 //! table's word was by the tables as they stand. So what restores each write is a planned write again, of a few bytes, and
 //! no slot is looked at but those that the plan writes.
 
-ghost use Rattle.std.specs.Prelude.{◌≡◌, ◌≤◌, [], OnOk, IsTrue, length, map, slice_get, vec_capacity};
+ghost use Rattle.std.specs.Prelude.{◌≡◌, ◌≤◌, ◌⊎◌, ℕ, [], OnOk, IsTrue, Option, Some, length, map, slice_get, vec_capacity};
 ghost use Rattle.std.specs.List.{AllByRecursion};
 ghost use Rattle.rule_store.specs.declared.Mode.TheVariants as modes;
 ghost use Rattle.tcam_device.specs.Insertion.{is_table_write};
 ghost use Rattle.tcam_device.specs.State.{state_after};
 ghost use Rattle.commit_writes.specs.Undo.{restorings};
 ghost use Rattle.batch_order.specs.Kept.{mode_of, tables_of};
+ghost use Rattle.batch_order.specs.Entries.{AreTold};
 ghost use Rattle.batch_order.specs.Undoing.{unmade};
+ghost use Rattle.move_planner.specs.Noted.{IsInside, taken_back};
+ghost use Rattle.placement.specs.Ready.{AreToldBut};
 
+use crate::entries::LiveEntries;
 use crate::planned_writes::PlannedWrite;
 use crate::translation::Translation;
 use commit_writes::{TableWord, Tables};
@@ -64,13 +68,46 @@ impl PlannedUndo {
         moved(&self.changes, place - moves)
     }
 
-    /// Takes an arrangement back that stands as the plan leads to: as it stood before the plan.
-    pub(crate) fn take_back(&self, arrangement: &mut Arrangement)
+    /// Takes an arrangement back that stands as the plan leads to: as it stood before the plan. It is told where ids stand then.
+    pub(crate) fn take_back(&self, live: &mut LiveEntries, arrangement: &mut Arrangement)
         requires { (before : Slots) × TakesBack before arrangement.old self.now }
-        ensures { (before : Slots) → TakesBack before arrangement.old self.now → arrangement.new ≡ before }
+        ensures back { (before : Slots) → TakesBack before arrangement.old self.now → arrangement.new ≡ before }
+        ensures live { live.new.live ≡ live.old.live }
+        ensures entries { live.new.entries ≡ live.old.entries }
+        ensures slots { live.new.slots ≡ live.old.slots }
+        ensures told { AreTold live.old arrangement.old → AreTold live.new arrangement.new }
     {
-        self.changes.take_back(arrangement);
-        self.moves.take_back(arrangement);
+        put_back(live, arrangement, &self.changes);
+        put_back(live, arrangement, &self.moves);
+    }
+}
+
+/// Makes moves in an arrangement, the last one first, whatever its slots hold, and tells where the ids stand that they move.
+pub(crate) fn put_back(live: &mut LiveEntries, arrangement: &mut Arrangement, moves: &Moves)
+    requires { AllByRecursion (IsInside (length arrangement.old)) moves.now }
+    ensures exact { arrangement.new ≡ taken_back arrangement.old moves.now }
+    ensures live { live.new.live ≡ live.old.live }
+    ensures entries { live.new.entries ≡ live.old.entries }
+    ensures slots { live.new.slots ≡ live.old.slots }
+    ensures told { AreTold live.old arrangement.old → AreTold live.new arrangement.new }
+{
+    for place in (0..moves.len()).rev() {
+        let (left, came) = moves.make_back(arrangement, place);
+        tell_if(live, arrangement, left);
+        tell_if(live, arrangement, came);
+    }
+}
+
+/// Tells where an id stands, if there is one.
+fn tell_if(live: &mut LiveEntries, arrangement: &Arrangement, id: Option<u32>)
+    ensures live { live.new.live ≡ live.old.live }
+    ensures entries { live.new.entries ≡ live.old.entries }
+    ensures slots { live.new.slots ≡ live.old.slots }
+    ensures told { (other : Option ℕ) → AreToldBut (λ one. (other ≡ Some one) ⊎ (id ≡ Some one)) live.old.live live.old.told arrangement.now
+        → AreToldBut (λ one. other ≡ Some one) live.new.live live.new.told arrangement.now }
+{
+    if let Some(id) = id {
+        live.tell(arrangement, id);
     }
 }
 

@@ -7,7 +7,7 @@ ghost use Rattle.rule_store.specs.Verdict.{entries_of};
 ghost use Rattle.rule_model.specs.Entry.{IsEncodable};
 ghost use Rattle.placement.specs.Live.{is_live};
 ghost use Rattle.batch_order.specs.Arranged.{arranged_at};
-ghost use Rattle.batch_order.specs.Entries.{AddsIds, KeepEntries};
+ghost use Rattle.batch_order.specs.Entries.{AddsIds, AreTold, KeepEntries};
 ghost use Rattle.batch_order.specs.Kept.{mode_of};
 ghost use Rattle.batch_order.specs.Noting.{AreChangesPlanned, BeginsWithWords, all_undo};
 ghost use Rattle.batch_order.specs.Placing.{aims_of};
@@ -21,7 +21,7 @@ use crate::insertions::{forget_all, plan_additions};
 use crate::parts::CommitParts;
 use crate::plan::{Plan, plan_changes};
 use crate::translation::{Translation, encoding};
-use crate::undoing::note_words;
+use crate::undoing::{note_words, put_back};
 use rule_store::Store;
 use slot_order::MOST_SLOTS;
 use slot_pool::Arrangement;
@@ -59,6 +59,7 @@ pub(crate) fn plan_writes(
     ensures same { translation.new ≡ translation.old }
     ensures kept { KeepEntries live.old.live live.old.entries live.new.entries }
     ensures slots { live.new.slots ≡ live.old.slots }
+    ensures told { AreTold live.new arrangement.new }
 {
     let mode = encoding(translation);
     let inserted = &parts.inserted;
@@ -76,12 +77,12 @@ pub(crate) fn plan_writes(
             Ok(()) => Ok(ids),
             Err(fault) => {
                 forget_all(live, ids);
-                plan.undo.moves.take_back(arrangement);
+                put_back(live, arrangement, &plan.undo.moves);
                 Err(fault)
             }
         },
         Err(fault) => {
-            plan.undo.moves.take_back(arrangement);
+            put_back(live, arrangement, &plan.undo.moves);
             Err(fault)
         }
     }

@@ -2,7 +2,7 @@
 use Rattle.std.proofs.Common.{◌≡◌, ℕ, ◌+◌, ◌-◌, ◌*◌, ◌<◌, ◌≤◌, Bool, true, IsTrue, Some, List, [], ◌∷◌, ◌++◌, length, map, take, drop, Contains, inl, inr, arith, refl, sym, ◌∙◌, subst, ap, length-append, append-nil, append_assoc}
 use Rattle.std.proofs.lemmas.Bool.{cases_lt, cases_eq}
 use Rattle.std.proofs.lemmas.List.{take-map, take-append-le, take_all, length-map}
-use Rattle.slot_order.specs.Order.{slot, Ordered, most_slots}
+use Rattle.slot_order.specs.Order.{slot, Ordered}
 use Rattle.slot_order.specs.Chains.{applied, IsChain, BoundsMemberChains}
 use Rattle.slot_moves.proofs.Turns.{Plus}
 use Rattle.slot_order.proofs.Walks.{Along_prefix, applied_append}
@@ -177,7 +177,6 @@ uncrossed_none index id slots plan ready clear = record {
 pub record IsWholly (index : LivePieces) (aiming : Aiming) (id : ℕ) (slots slots' : Slots) (plan plan' : List Move) : Type 0 where
   pub made : AreMade slots slots' plan plan'
   pub placement : IsPlacement (is_above index.live) (rank_in index.live) aiming id slots (moves_since plan plan')
-  pub few : length (moves_since plan plan') ≤ (1 + most_slots) * 4098
   pub one_fewer : free_slots slots' + 1 ≡ free_slots slots
   pub inserted : IsInserted index id slots (moves_since plan plan')
 
@@ -185,7 +184,6 @@ pub wholly : (index : LivePieces) (aiming : Aiming) (id : ℕ) (a b c : Slots) (
 wholly index aiming id a b c p q r ready x y = record {
   made = made;
   placement = placement;
-  few = let n = length-append x.moves y.moves in let s = x.few in let t = y.few in let e = ap length since in omega arith;
   one_fewer = y.one_fewer ∙ x.same_free;
   inserted = inserted index id a (moves_since p r) ready placement;
 }
@@ -208,10 +206,8 @@ wholly index aiming id a b c p q r ready x y = record {
 -- the count of the moves
 pub record CountsMoves (index : LivePieces) (id : ℕ) (slots : Slots) (plan plan' : List Move) : Type 0 where
   pub count : length plan' - length plan ≡ length (moves_since plan plan')
-  pub small : length (moves_since plan plan') < 4294967296
 
 pub counted : (index : LivePieces) {aiming : Aiming} (id : ℕ) (slots slots' : Slots) (plan plan' : List Move) → IsReady index id slots → IsWholly index aiming id slots slots' plan plan' → CountsMoves index id slots plan plan'
 counted index id slots slots' plan plan' ready w = record {
   count = let e = ap length w.made.0 in let n = length-append plan (moves_since plan plan') in omega arith;
-  small = let k = w.few in omega arith;
 }

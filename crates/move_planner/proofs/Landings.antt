@@ -1,9 +1,13 @@
 -- Where the last member of a chain goes, as it was computed.
-use Rattle.std.proofs.Common.{◌≡◌, ℕ, zero, suc, ◌≤◌, Bool, true, false, List, [], ◌∷◌, length, inl, inr, lit≤, arith, refl, sym, ◌∙◌, subst, ap}
-use Rattle.std.specs.Prelude.{slice_index_or}
+use Rattle.std.proofs.Common.{◌≡◌, ℕ, zero, suc, ◌+◌, ◌*◌, ◌<◌, ◌≤◌, Bool, true, false, Option, None, Some, List, [], ◌∷◌, length, count_by, inl, inr, lit≤, arith, refl, sym, ◌∙◌, subst, ap}
+use Rattle.std.specs.Prelude.{cond, is_none, slice_index_or}
+use Rattle.std.proofs.lemmas.List.Sums.{sum_by-cons}
+use Rattle.std.proofs.Math.Nat.{div-le_of_le-mul, mul-le-mul_right}
+use Rattle.slot_moves.specs.Cuts.{holds}
 use Rattle.slot_moves.specs.Moves.{Downwards, Upwards}
 use Rattle.slot_pool.specs.Arrangement.{Slots}
 use Rattle.slot_pool.proofs.Scan.{next_free_is, last_free_is}
+use Rattle.placement.specs.Insertion.{free_slots}
 use Rattle.placement.specs.Live.{LivePieces, is_above, rank_in}
 use Rattle.placement.specs.Placement.{Aiming, rank_slot, last_of, landing_down, landing_up}
 use Rattle.placement.specs.Ready.{CanShift, IsReady}
@@ -25,6 +29,33 @@ last_at from [] none zero is = refl
 last_at from [] none (suc k) is = absurd (omega arith)
 last_at from (next ∷ rest) none zero is = absurd (omega arith)
 last_at from (next ∷ rest) none (suc k) is = last_at next rest none k (omega arith)
+
+-- of so many entries each one's share begins inside the slots
+pub rank_inside : (slots before all : ℕ) → before < all → rank_slot slots before all ≤ slots
+rank_inside slots before all less =
+    let share : 2 * before + 1 ≤ 2 * all = omega arith in
+    div-le_of_le-mul (2 * all) (mul-le-mul_right slots share)
+
+-- no more slots hold entries of some kind than are taken
+abbrev one_here : (ℕ → Bool) → Option ℕ → ℕ
+one_here test held = cond (holds test held) 1 0
+
+abbrev one_free : Option ℕ → ℕ
+one_free held = cond (is_none held) 1 0
+
+pub some_taken : (test : ℕ → Bool) (slots : Slots) → count_by (λ (held : Option ℕ). holds test held) slots + free_slots slots ≤ length slots
+some_taken test [] = omega arith
+some_taken test (None ∷ slots) =
+    let rest = some_taken test slots in
+    let same : count_by (λ (held : Option ℕ). holds test held) (None ∷ slots) ≡ 0 + count_by (λ (held : Option ℕ). holds test held) slots = sum_by-cons (one_here test) None slots in
+    let more : free_slots (None ∷ slots) ≡ 1 + free_slots slots = sum_by-cons one_free None slots in
+    omega arith
+some_taken test (Some id ∷ slots) =
+    let rest = some_taken test slots in
+    let small = one_small (test id) in
+    let more : count_by (λ (held : Option ℕ). holds test held) (Some id ∷ slots) ≡ one (test id) + count_by (λ (held : Option ℕ). holds test held) slots = sum_by-cons (one_here test) (Some id) slots in
+    let same : free_slots (Some id ∷ slots) ≡ 0 + free_slots slots = sum_by-cons one_free (Some id) slots in
+    omega arith
 
 pub rank_same : (a b before others all every : ℕ) → a ≡ b → before ≡ others → all ≡ every → rank_slot a before all ≡ rank_slot b others every
 rank_same a b before others all every x y z =

@@ -15,6 +15,7 @@ pub mod Pushed
 pub mod Shifted
 pub mod Single
 pub mod Sought
+pub mod Told
 pub mod Tallied
 pub mod Turned
 pub mod Uncrossing

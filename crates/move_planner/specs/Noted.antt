@@ -1,11 +1,19 @@
 -- What puts back what moves replace.
-use Rattle.std.specs.Prelude.{◌≡◌, ℕ, ◌<◌, Option, None, Some, List, [], ◌∷◌, ◌++◌, length}
+use Rattle.std.specs.Prelude.{◌≡◌, ℕ, ◌<◌, Option, None, Some, List, [], ◌∷◌, ◌++◌, length, Contains}
 use Rattle.std.specs.List.{AllByRecursion}
 use Rattle.slot_order.specs.Order.{slot}
 use Rattle.slot_pool.specs.Arrangement.{Slots}
 use Rattle.placement.specs.declared.Move.{Move}
 use Rattle.placement.specs.declared.Move.TheVariants.{Put, Erase}
 use Rattle.placement.specs.Placement.{after_move, after_moves}
+
+-- the slot of a move, and what it holds
+abbrev pub slot_of : Move → ℕ
+slot_of (Put at id) = at
+slot_of (Erase at) = at
+
+abbrev pub held_at : Slots → Move → Option ℕ
+held_at slots move = slot slots (slot_of move)
 
 -- the move that puts into a slot what is held there
 abbrev pub as_held : ℕ → Option ℕ → Move
@@ -26,6 +34,10 @@ backs_of slots (move ∷ moves) = back_of slots move ∷ backs_of (after_move sl
 abbrev pub IsInside : ℕ → Move → Type 0
 IsInside slots (Put at id) = at < slots
 IsInside slots (Erase at) = at < slots
+
+-- some moves put the id somewhere
+abbrev pub IsNamed : List Move → ℕ → Type 0
+IsNamed moves id = (at : ℕ) × Contains moves (Put at id)
 
 -- an arrangement once some moves are made in it, the last one first
 abbrev pub taken_back : Slots → List Move → Slots

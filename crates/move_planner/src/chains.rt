@@ -7,7 +7,7 @@ ghost use Rattle.placement.specs.Placement.{IsInOrder, StopsBelow, StopsAbove, a
 ghost use Rattle.placement.specs.Insertion.{AreMade, free_slots};
 ghost use Rattle.move_planner.specs.Noted.{AreNoted};
 ghost use Rattle.move_planner.specs.Steps.{AllLive};
-ghost use Rattle.placement.specs.Ready.{StepsDown, StepsUp, CanShift};
+ghost use Rattle.placement.specs.Ready.{IsTold, StepsDown, StepsUp, CanShift};
 
 use crate::Moves;
 use crate::places::{greater, lesser};
@@ -69,9 +69,42 @@ impl Chain {
 }
 
 /// The slot that a down chain goes on to, if it is before the free one: the first behind `slot` whose id is below the
-/// one there. The list of those below it and the slots are gone through side by side, until either ends or the slot is
-/// found.
+/// one there.
 pub(crate) fn step_down(slots: &Arrangement, index: &Index, slot: u32, free: u32) -> Option<u32>
+    requires before { slot < free }
+    requires inside { free < length slots.now }
+    requires live { AllLive index.now slots.now }
+    requires told { IsTold index.now slots.now }
+    requires order { IsInOrder (is_above index.now.live) slots.now }
+    ensures { StepsDown (is_above index.now.live) slots.now free slot result }
+{
+    if !index.is_told() {
+        return listed_down(slots, index, slot, free);
+    }
+    let id = slots.at(slot)?;
+    if_before(index.first_below(id), free)
+}
+
+/// The slot that an up chain goes on to, if it is behind the free one: the mirror.
+pub(crate) fn step_up(slots: &Arrangement, index: &Index, slot: u32, free: u32) -> Option<u32>
+    requires after { free < slot }
+    requires inside { slot < length slots.now }
+    requires live { AllLive index.now slots.now }
+    requires told { IsTold index.now slots.now }
+    requires once { (i j other : ℕ) → held_in slots.now i ≡ Some other → held_in slots.now j ≡ Some other → i ≡ j }
+    requires order { IsInOrder (is_above index.now.live) slots.now }
+    ensures { StepsUp (is_above index.now.live) slots.now free slot result }
+{
+    if !index.is_told() {
+        return listed_up(slots, index, slot, free);
+    }
+    let id = slots.at(slot)?;
+    if_behind(index.last_above(id), free)
+}
+
+/// The next slot of a down chain, by the list of those below an id: this and the slots are gone through side by side, until
+/// either ends or the slot is found.
+fn listed_down(slots: &Arrangement, index: &Index, slot: u32, free: u32) -> Option<u32>
     requires before { slot < free }
     requires inside { free < length slots.now }
     requires live { AllLive index.now slots.now }
@@ -94,8 +127,8 @@ pub(crate) fn step_down(slots: &Arrangement, index: &Index, slot: u32, free: u32
     if_before(first, free)
 }
 
-/// The slot that an up chain goes on to, if it is behind the free one: the mirror.
-pub(crate) fn step_up(slots: &Arrangement, index: &Index, slot: u32, free: u32) -> Option<u32>
+/// The next slot of an up chain, by the list of those above an id: the mirror.
+fn listed_up(slots: &Arrangement, index: &Index, slot: u32, free: u32) -> Option<u32>
     requires after { free < slot }
     requires inside { slot < length slots.now }
     requires live { AllLive index.now slots.now }

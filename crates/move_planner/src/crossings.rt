@@ -1,5 +1,5 @@
 //! The turns that put the entries that must stand before a new id and those that must stand behind it apart.
-ghost use Rattle.std.specs.Prelude.{◌≡◌, ℕ, ◌-◌, ◌<◌, ◌≤◌, Bool, IfOk, OnOk, OnErr, length};
+ghost use Rattle.std.specs.Prelude.{◌≡◌, ℕ, ◌-◌, ◌<◌, ◌≤◌, Bool, None, IfOk, OnOk, OnErr, length};
 ghost use Rattle.slot_pool.specs.Arrangement.{next_free_above, last_free_below};
 ghost use Rattle.placement.specs.Live.{LivePieces, is_above};
 ghost use Rattle.placement.specs.Placement.{gap_start, gap_end, IsInOrder};
@@ -43,6 +43,7 @@ pub(crate) fn uncross(
     gap: Gap,
 ) -> Result<(), AllocError>
     requires ready { IsReady index.now id slots.old }
+    requires untold { index.now.told ≡ None }
     requires start { gap.start ≡ gap_start (is_above index.now.live) slots.old id }
     requires end { gap.end ≡ gap_end (is_above index.now.live) slots.old id }
     requires crossed { gap_end (is_above index.now.live) slots.old id < gap_start (is_above index.now.live) slots.old id }
@@ -74,7 +75,8 @@ fn pass_one(
     sides: &Sides,
     cut: Cut,
 ) -> Result<Option<Cut>, AllocError>
-    requires { (id : ℕ) × (behind : ℕ → Bool) × (before : ℕ → Bool) × IsUnderway index.now id behind before slots.old sides.now cut }
+    requires underway { (id : ℕ) × (behind : ℕ → Bool) × (before : ℕ → Bool) × IsUnderway index.now id behind before slots.old sides.now cut }
+    requires untold { index.now.told ≡ None }
     ensures passed { IfOk result (λ next. (id : ℕ) (behind before : ℕ → Bool) → IsUnderway index.now id behind before slots.old sides.now cut
         → MayPass index.now id behind before (moves_made slots.old plan.old) (moves_made slots.new plan.new) sides.now cut next) }
     ensures further { IfOk result (IsFurther sides.now cut) }
@@ -96,7 +98,8 @@ fn passer(
     sides: &Sides,
     cut: Cut,
 ) -> Result<Option<Chain>, AllocError>
-    requires { (id : ℕ) × (behind : ℕ → Bool) × (before : ℕ → Bool) × IsUnderway index.now id behind before slots.now sides.now cut }
+    requires underway { (id : ℕ) × (behind : ℕ → Bool) × (before : ℕ → Bool) × IsUnderway index.now id behind before slots.now sides.now cut }
+    requires untold { index.now.told ≡ None }
     ensures { IfOk result (λ found. (id : ℕ) (behind before : ℕ → Bool) → IsUnderway index.now id behind before slots.now sides.now cut
         → FindsPasser (is_above index.now.live) behind before slots.now sides.now cut found) }
 {

@@ -1,11 +1,12 @@
 //! Where the last entry of a chain goes: to a free slot of its own gap, beyond it, that its aim wishes.
-ghost use Rattle.std.specs.Prelude.{◌≡◌, ℕ, ◌-◌, ◌<◌, ◌≤◌, ◌^◌, IsTrue, Some, IfSome, nat_lt, length, count_by, slice_index_or};
+ghost use Rattle.std.specs.Prelude.{◌≡◌, ℕ, ◌+◌, ◌-◌, ◌<◌, ◌≤◌, IsTrue, Some, IfSome, nat_lt, length, count_by, slice_index_or};
 ghost use Rattle.slot_order.specs.Order.{slot as held_in};
 ghost use Rattle.slot_moves.specs.Cuts.{holds};
 ghost use Rattle.slot_pool.specs.Arrangement.{nearest_free};
+ghost use Rattle.placement.specs.Insertion.{free_slots};
 ghost use Rattle.placement.specs.Live.{is_live, is_above, rank_in};
-ghost use Rattle.placement.specs.Placement.{rank_slot, share_of_held, wished_by, landing_in, landing_down, landing_up};
-ghost use Rattle.placement.specs.Ready.{IsTaken, CanShift};
+ghost use Rattle.placement.specs.Placement.{IsInOrder, rank_slot, share_of_held, wished_by, landing_in, landing_down, landing_up};
+ghost use Rattle.placement.specs.Ready.{IsTaken, IsTold, CanShift};
 ghost use Rattle.move_planner.specs.Boundary.{one};
 ghost use Rattle.move_planner.specs.Steps.{AllLive, Landed};
 
@@ -30,6 +31,8 @@ pub(crate) fn landed(
     requires few { length slots.now ≤ MOST_SLOTS }
     requires few_coming { length coming.now ≤ MOST_SLOTS }
     requires live { AllLive index.now slots.now }
+    requires told { IsTold index.now slots.now }
+    requires order { IsInOrder (is_above index.now.live) slots.now }
     requires once { (i j other : ℕ) → held_in slots.now i ≡ Some other → held_in slots.now j ≡ Some other → i ≡ j }
     requires shift { CanShift slots.now chain.free chain.members.items }
     ensures { Landed (is_above index.now.live) (rank_in index.now.live) (record { aim = aim; coming = coming.now }) slots.now chain result }
@@ -59,6 +62,8 @@ fn landing_down(
     requires few { length slots.now ≤ MOST_SLOTS }
     requires few_coming { length coming.now ≤ MOST_SLOTS }
     requires live { AllLive index.now slots.now }
+    requires told { IsTold index.now slots.now }
+    requires order { IsInOrder (is_above index.now.live) slots.now }
     requires taken { IsTaken slots.now last }
     ensures { result ≡ landing_down (is_above index.now.live) (rank_in index.now.live) (record { aim = aim; coming = coming.now }) slots.now free last }
 {
@@ -96,6 +101,7 @@ fn landing_up(
     requires few { length slots.now ≤ MOST_SLOTS }
     requires few_coming { length coming.now ≤ MOST_SLOTS }
     requires live { AllLive index.now slots.now }
+    requires told { IsTold index.now slots.now }
     requires once { (i j other : ℕ) → held_in slots.now i ≡ Some other → held_in slots.now j ≡ Some other → i ≡ j }
     requires taken { IsTaken slots.now last }
     ensures { result ≡ landing_up (is_above index.now.live) (rank_in index.now.live) (record { aim = aim; coming = coming.now }) slots.now free last }
@@ -168,19 +174,18 @@ fn share_of(slots: &Arrangement, index: &Index, coming: &[Rank], id: u32) -> u32
     let rank = index.rank_of(id);
     let before = standing_above(slots, index, rank) + coming_above(coming, rank);
     let all = slots.slots() - slots.free_count() + 1 + coming.len() as u32;
-    rank_slot(slots.slots(), before, all)
+    rank_slot(slots.slots(), before, all) as u32
 }
 
 /// Where an entry with so many before it belongs, of so many in all, each with its share of the
 /// slots: in the middle of its share.
-pub fn rank_slot(slots: u32, before: u32, all: u32) -> u32
+pub fn rank_slot(slots: u32, before: u32, all: u32) -> u64
     requires few { slots ≤ MOST_SLOTS }
-    requires before { before ≤ 2 ^ 16 }
     requires some { 0 < all }
-    requires most { all ≤ 2 ^ 16 }
-    ensures { result ≡ rank_slot slots before all }
+    ensures share { result ≡ rank_slot slots before all }
+    ensures inside { before < all → result ≤ slots }
 {
-    (2 * before + 1) * slots / (2 * all)
+    (2 * before as u64 + 1) * slots as u64 / (2 * all as u64)
 }
 
 /// How many entries that stand have a higher priority than this.
@@ -189,6 +194,7 @@ fn standing_above(slots: &Arrangement, index: &Index, rank: Rank) -> u32
     requires live { AllLive index.now slots.now }
     ensures count { result ≡ count_by (λ held. holds (λ id. nat_lt rank (rank_in index.now.live id)) held) slots.now }
     ensures few { result ≤ length slots.now }
+    ensures taken { result + free_slots slots.now ≤ length slots.now }
 {
     let mut count = 0;
     for slot in 0..slots.slots() {

@@ -88,6 +88,10 @@
 //! as many of either as the list has entries, or as there are slots to the next member or to the free slot, whichever
 //! is less. Where entries overlap much the lists are long, and the next member stands near.
 //!
+//! Of routes nothing is listed: the index is told where they stand, and answers with the slot of the last upper one and of the
+//! first lower one. So a gap takes two questions, and each member of a chain one. What was told has to be right before the first
+//! move alone: of routes nothing crosses, so no question comes behind a move.
+//!
 //! Where a chain's last member may choose its slot the index is asked for one list more, for the end of its gap, and by a
 //! slot as aim for the priority of every entry that stands, once, unless one slot alone is free there.
 //!
@@ -131,15 +135,15 @@
 //!   and 164 µs so (two runs of each). The price is `is_above` of two ids in `overlap_index`.
 #![tactic(auto)]
 
-ghost use Rattle.std.specs.Prelude.{◌≡◌, ℕ, ◌+◌, ◌*◌, ◌^◌, ◌<◌, ◌≤◌, ◌++◌, ◌∷◌, [], List, Bool, Option, IsTrue, IfOk, OnOk, OnErr, length, take, slice_index_or};
+ghost use Rattle.std.specs.Prelude.{◌≡◌, ℕ, ◌+◌, ◌*◌, ◌^◌, ◌<◌, ◌≤◌, ◌++◌, ◌∷◌, [], List, Bool, Option, IsTrue, IsSome, IfOk, OnOk, OnErr, length, take, slice_get, slice_index_or};
 ghost use Rattle.std.specs.List.{AllByRecursion};
 ghost use Rattle.placement.specs.Live.{is_live, is_above, rank_in};
 ghost use Rattle.slot_moves.specs.Cuts.{wrong_side, HasRoomNear};
 ghost use Rattle.placement.specs.Placement.{AreSides, IsCut, IsPlacement, IsInOrder, first_lower, last_upper, gap_start, gap_end, span_of, after_move, after_moves};
 ghost use Rattle.placement.specs.Insertion.{IsLive, IsOther, StandOnce, BoundsLiveChains, AreMade, free_slots, moves_since};
-ghost use Rattle.move_planner.specs.Noted.{AreNoted, IsInside, as_held, back_of, backs_of, taken_back};
+ghost use Rattle.move_planner.specs.Noted.{AreNoted, IsInside, as_held, back_of, backs_of, held_at, slot_of, taken_back};
 ghost use Rattle.move_planner.specs.Steps.{CanMake, UndoesCrossing};
-ghost use Rattle.placement.specs.Ready.{IsReady};
+ghost use Rattle.placement.specs.Ready.{IsReady, IsTold};
 
 mod boundary;
 mod chains;
@@ -167,7 +171,7 @@ use std::marker::Model;
 #[derive(Clone, Copy, Debug, PartialEq, Eq)]
 pub struct Insert {
     /// The number of moves.
-    pub writes: u32,
+    pub writes: u64,
     /// By how many slots the last upper id stood past the first lower one, 0 where it didn't.
     pub span: u32,
 }
@@ -234,6 +238,19 @@ impl Moves {
         }
     }
 
+    /// Makes the move at a place in an arrangement, whatever its slot holds. Tells what that held before, and what it holds.
+    pub fn make_back(&self, slots: &mut Arrangement, place: u64) -> (Option<u32>, Option<u32>)
+        requires place { place < length self.now }
+        requires inside { AllByRecursion (IsInside (length slots.old)) self.now }
+        ensures made { (step : Move) → slice_get self.now place ≡ Some step → slots.new ≡ after_move slots.old step }
+        ensures moved { (step : Move) → slice_get self.now place ≡ Some step → (result.0 ≡ held_at slots.old step) × (result.1 ≡ held_at slots.new step) }
+    {
+        let step = self.at(place);
+        let left = slots.at(slot_of(&step));
+        make_anyhow(slots, step);
+        (left, slots.at(slot_of(&step)))
+    }
+
     /// Makes a move, as the last of the plan and in the arrangement, and notes what its slot held as the
     /// last of the undo moves. After a refusal all three are as before.
     pub(crate) fn make(
@@ -256,6 +273,16 @@ impl Moves {
         undo.moves.push_reserved(back_of(slots, &step));
         make_in(slots, step);
         Ok(())
+    }
+}
+
+/// The slot that a move writes.
+fn slot_of(step: &Move) -> u32
+    ensures { result ≡ slot_of step.now }
+{
+    match step {
+        Move::Put(slot, _) => *slot,
+        Move::Erase(slot) => *slot,
     }
 }
 
@@ -312,9 +339,9 @@ fn as_held(slot: u32, held: Option<u32>) -> Move
 }
 
 /// Plans the moves that place a new live id with an aim, and makes them in the arrangement. `coming` has the priorities of
-/// the entries that the same commit inserts later, 4,096 at most.
+/// the entries that the same commit inserts later, `MOST_SLOTS` at most.
 ///
-/// `slots` has at most 4,096 slots, of which one is free. `id` is live in `index` and stands in no slot; every other
+/// `slots` has at most `MOST_SLOTS` slots, of which one is free. `id` is live in `index` and stands in no slot; every other
 /// live id stands in exactly one, and all in order. The plan gains the moves, each of which leaves the arrangement in
 /// order, and at the end every live id stands in exactly one slot. The undo moves gain, in the same order, what puts
 /// back what each move's slot held before it (`noted`), so that the moves can be taken back, the last one first. The
@@ -343,6 +370,7 @@ pub fn plan_insert(
     requires live { IsTrue (is_live index.now.live id) }
     requires standing { StandOnce (IsOther index.now.live id) slots.old }
     requires order { IsInOrder (is_above index.now.live) slots.old }
+    requires told { IsTold index.now slots.old }
     ensures plan { plan.new ≡ plan.old ++ moves_since plan.old plan.new }
     ensures slots { slots.new ≡ after_moves slots.old (moves_since plan.old plan.new) }
     ensures noted { AreNoted slots.old slots.new plan.old plan.new undo.old undo.new }
@@ -371,7 +399,7 @@ pub fn plan_insert(
     let span = gap.span();
     let gap = clear_gap(alloc, slots, index, plan, undo, sides, id, gap)?;
     place(alloc, slots, index, plan, undo, id, aim, coming, gap)?;
-    let writes = (plan.len() - before) as u32;
+    let writes = plan.len() - before;
     Ok(Insert { writes, span })
 }
 
@@ -388,6 +416,8 @@ fn clear_gap(
     gap: Gap,
 ) -> Result<Gap, AllocError>
     requires ready { IsReady index.now id slots.old }
+    requires told { IsTold index.now slots.old }
+    requires straight { IsSome index.now.told → gap.start ≤ gap.end }
     requires upper { gap.upper ≡ last_upper (is_above index.now.live) slots.old id }
     requires lower { gap.lower ≡ first_lower (is_above index.now.live) slots.old id }
     requires start { gap.start ≡ gap_start (is_above index.now.live) slots.old id }
@@ -397,6 +427,7 @@ fn clear_gap(
     ensures lower { IfOk result (λ now. now.lower ≡ first_lower (is_above index.now.live) slots.new id) }
     ensures start { IfOk result (λ now. now.start ≡ gap_start (is_above index.now.live) slots.new id) }
     ensures end { IfOk result (λ now. now.end ≡ gap_end (is_above index.now.live) slots.new id) }
+    ensures told { OnOk result (IsTold index.now slots.new) }
     ensures made { OnErr result (AreMade slots.old slots.new plan.old plan.new) }
     ensures noted { AreNoted slots.old slots.new plan.old plan.new undo.old undo.new }
 {

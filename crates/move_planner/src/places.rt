@@ -1,9 +1,10 @@
 //! Where a new id may stand, and which place it takes.
-ghost use Rattle.std.specs.Prelude.{◌≡◌, ◌<◌, ◌≤◌, ◌+◌, ◌-◌, ◌/◌, ◌^◌, ℕ, IsTrue, Some, length};
+ghost use Rattle.std.specs.Prelude.{◌≡◌, ◌<◌, ◌≤◌, ◌+◌, ◌-◌, ◌/◌, ◌^◌, ℕ, IsTrue, IsSome, Some, length};
 ghost use Rattle.slot_order.specs.Order.{slot as held_in};
 ghost use Rattle.slot_pool.specs.Arrangement.{nearest_free};
 ghost use Rattle.placement.specs.Live.{AreApart, is_live, is_above};
-ghost use Rattle.placement.specs.Placement.{first_lower, last_upper, next_slot, gap_start, gap_end, aimed_at};
+ghost use Rattle.placement.specs.Placement.{IsInOrder, first_lower, last_upper, next_slot, gap_start, gap_end, aimed_at};
+ghost use Rattle.placement.specs.Ready.{IsTold};
 ghost use Rattle.move_planner.specs.Steps.{lesser, greater};
 
 use overlap_index::Index;
@@ -11,8 +12,38 @@ use placement::Aim;
 use slot_order::MOST_SLOTS;
 use slot_pool::Arrangement;
 
-/// The least slot of an id below this one.
+/// The least slot of an id below this one. Where it is told where ids stand it is that of the one which is above all others.
 pub(crate) fn first_lower(slots: &Arrangement, index: &Index, id: u32) -> Option<u32>
+    requires live { IsTrue (is_live index.now.live id) }
+    requires told { IsTold index.now slots.now }
+    requires order { IsInOrder (is_above index.now.live) slots.now }
+    ensures first { result ≡ first_lower (is_above index.now.live) slots.now id }
+    ensures apart { AreApart index.now.slots index.now.live }
+{
+    if index.is_told() {
+        index.first_below(id)
+    } else {
+        first_listed(slots, index, id)
+    }
+}
+
+/// The greatest slot of an id above this one, where each id stands in one slot.
+pub(crate) fn last_upper(slots: &Arrangement, index: &Index, id: u32) -> Option<u32>
+    requires live { IsTrue (is_live index.now.live id) }
+    requires told { IsTold index.now slots.now }
+    requires once { (i j other : ℕ) → held_in slots.now i ≡ Some other → held_in slots.now j ≡ Some other → i ≡ j }
+    ensures last { result ≡ last_upper (is_above index.now.live) slots.now id }
+    ensures apart { AreApart index.now.slots index.now.live }
+{
+    if index.is_told() {
+        index.last_above(id)
+    } else {
+        last_listed(slots, index, id)
+    }
+}
+
+/// The least slot of an id below this one, of all that are.
+fn first_listed(slots: &Arrangement, index: &Index, id: u32) -> Option<u32>
     requires { IsTrue (is_live index.now.live id) }
     ensures first { result ≡ first_lower (is_above index.now.live) slots.now id }
     ensures apart { AreApart index.now.slots index.now.live }
@@ -24,8 +55,8 @@ pub(crate) fn first_lower(slots: &Arrangement, index: &Index, id: u32) -> Option
     first
 }
 
-/// The greatest slot of an id above this one, where each id stands in one slot.
-pub(crate) fn last_upper(slots: &Arrangement, index: &Index, id: u32) -> Option<u32>
+/// The greatest slot of an id above this one, of all that are.
+fn last_listed(slots: &Arrangement, index: &Index, id: u32) -> Option<u32>
     requires live { IsTrue (is_live index.now.live id) }
     requires once { (i j other : ℕ) → held_in slots.now i ≡ Some other → held_in slots.now j ≡ Some other → i ≡ j }
     ensures last { result ≡ last_upper (is_above index.now.live) slots.now id }
@@ -91,17 +122,22 @@ impl Gap {
     }
 }
 
-/// The gap of a live id, from one look at all that overlaps it on either side.
+/// The gap of a live id, from one look at all that overlaps it on either side, or at none of it where it is told where ids
+/// stand: then none crosses another.
 pub(crate) fn find_gap(slots: &Arrangement, index: &Index, id: u32) -> Gap
     requires few { length slots.now ≤ MOST_SLOTS }
     requires live { IsTrue (is_live index.now.live id) }
+    requires told { IsTold index.now slots.now }
+    requires order { IsInOrder (is_above index.now.live) slots.now }
     requires once { (i j other : ℕ) → held_in slots.now i ≡ Some other → held_in slots.now j ≡ Some other → i ≡ j }
     ensures upper { result.upper ≡ last_upper (is_above index.now.live) slots.now id }
     ensures lower { result.lower ≡ first_lower (is_above index.now.live) slots.now id }
     ensures start { result.start ≡ gap_start (is_above index.now.live) slots.now id }
     ensures end { result.end ≡ gap_end (is_above index.now.live) slots.now id }
+    ensures straight { IsSome index.now.told → result.start ≤ result.end }
     ensures apart { AreApart index.now.slots index.now.live }
 {
+    let _told = index.is_told();
     let upper = last_upper(slots, index, id);
     let lower = first_lower(slots, index, id);
     let start = next_slot(upper);

@@ -3,7 +3,7 @@ ghost use Rattle.std.specs.Prelude.{◌≡◌, ◌<◌, ◌≤◌, IfSome, IfOk,
 ghost use Rattle.placement.specs.Live.{is_above};
 ghost use Rattle.placement.specs.Placement.{first_lower, last_upper, gap_start, gap_end};
 ghost use Rattle.placement.specs.Insertion.{AreMade};
-ghost use Rattle.placement.specs.Ready.{IsReady};
+ghost use Rattle.placement.specs.Ready.{IsReady, IsTold};
 ghost use Rattle.move_planner.specs.Noted.{AreNoted};
 ghost use Rattle.move_planner.specs.Steps.{IsFull, IsPlaced, IsWay, ends_down, ends_up};
 
@@ -34,6 +34,7 @@ pub(crate) fn place(
     gap: Gap,
 ) -> Result<(), AllocError>
     requires ready { IsReady index.now id slots.old }
+    requires told { IsTold index.now slots.old }
     requires coming { length coming.now ≤ MOST_SLOTS }
     requires upper { gap.upper ≡ last_upper (is_above index.now.live) slots.old id }
     requires lower { gap.lower ≡ first_lower (is_above index.now.live) slots.old id }
@@ -63,6 +64,7 @@ fn way(
     gap: Gap,
 ) -> Result<Chain, AllocError>
     requires ready { IsReady index.now id slots.now }
+    requires told { IsTold index.now slots.now }
     requires upper { gap.upper ≡ last_upper (is_above index.now.live) slots.now id }
     requires lower { gap.lower ≡ first_lower (is_above index.now.live) slots.now id }
     requires full { IsFull (is_above index.now.live) slots.now id }

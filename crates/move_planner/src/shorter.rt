@@ -3,6 +3,7 @@ ghost use Rattle.std.specs.Prelude.{◌≡◌, ◌++◌, ◌∷◌, [], ℕ, Som
 ghost use Rattle.slot_order.specs.Order.{slot as held_in};
 ghost use Rattle.placement.specs.Live.{is_above};
 ghost use Rattle.placement.specs.Placement.{IsInOrder};
+ghost use Rattle.placement.specs.Ready.{IsTold};
 ghost use Rattle.move_planner.specs.Steps.{AllLive, CanGoDown, CanGoUp, IsDown, IsUp, IsShorter, FindsShorter};
 
 use crate::chains::{Chain, step_down, step_up};
@@ -61,6 +62,7 @@ pub(crate) fn shorter_chain(
     requires down { IfSome down (CanGoDown slots.now) }
     requires up { IfSome up (CanGoUp slots.now) }
     requires live { AllLive index.now slots.now }
+    requires told { IsTold index.now slots.now }
     requires once { (i j other : ℕ) → held_in slots.now i ≡ Some other → held_in slots.now j ≡ Some other → i ≡ j }
     requires order { IsInOrder (is_above index.now.live) slots.now }
     ensures { IfOk result (FindsShorter (is_above index.now.live) slots.now down up) }
@@ -85,6 +87,7 @@ fn first_to_end(
     requires down { CanGoDown slots.now down }
     requires up { CanGoUp slots.now up }
     requires live { AllLive index.now slots.now }
+    requires told { IsTold index.now slots.now }
     requires once { (i j other : ℕ) → held_in slots.now i ≡ Some other → held_in slots.now j ≡ Some other → i ≡ j }
     requires order { IsInOrder (is_above index.now.live) slots.now }
     ensures { IfOk result (IsShorter (is_above index.now.live) slots.now (Some down) (Some up)) }
@@ -116,6 +119,7 @@ fn walk_down(
 ) -> Result<Chain, AllocError>
     requires down { CanGoDown slots.now ends }
     requires live { AllLive index.now slots.now }
+    requires told { IsTold index.now slots.now }
     requires order { IsInOrder (is_above index.now.live) slots.now }
     ensures { IfOk result (IsDown (is_above index.now.live) slots.now ends.from (Some ends.free)) }
 {
@@ -138,6 +142,7 @@ fn walk_up(
 ) -> Result<Chain, AllocError>
     requires up { CanGoUp slots.now ends }
     requires live { AllLive index.now slots.now }
+    requires told { IsTold index.now slots.now }
     requires once { (i j other : ℕ) → held_in slots.now i ≡ Some other → held_in slots.now j ≡ Some other → i ≡ j }
     requires order { IsInOrder (is_above index.now.live) slots.now }
     ensures { IfOk result (IsUp (is_above index.now.live) slots.now ends.from (Some ends.free)) }

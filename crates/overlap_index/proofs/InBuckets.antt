@@ -5,6 +5,7 @@ use Rattle.std.specs.List.{IsDistinct}
 use Rattle.std.proofs.lemmas.Bool.{both_ways, cases_eq}
 use Rattle.std.proofs.lemmas.List.{length-set, length-replicate, get_or-replicate, get_or-set_other}
 use Rattle.std.proofs.lemmas.List.Elements.{Contains-push, Contains-push_cases, Contains-append_left}
+use Rattle.slot_order.specs.Order.{most_slots}
 use Rattle.slot_order.proofs.Lists.{AllByRecursion-member, contains_head, contains_tail, contains_cases, contains_none, in_filter, filter_in}
 use Rattle.rule_model.specs.declared.Piece.{Piece}
 use Rattle.placement.specs.declared.LivePiece.{LivePiece}
@@ -109,7 +110,7 @@ more_here slots bucket one live ids here exact id = (
   ],
 )
 
-pub buckets_more : (slots : ℕ) (one : LivePiece) (live : List LivePiece) (links : Links) → slots ≤ 65536 → one.id < slots → is_live live one.id ≡ false → AreApart slots live → AreBuckets slots live links
+pub buckets_more : (slots : ℕ) (one : LivePiece) (live : List LivePiece) (links : Links) → slots ≤ most_slots → one.id < slots → is_live live one.id ≡ false → AreApart slots live → AreBuckets slots live links
     → AreBuckets slots (live ++ one ∷ []) (with_first links (bucket_of slots one.piece one.rank) one.id)
 unfolding IsDistinct
 buckets_more slots one live links most small absent apart are = record {

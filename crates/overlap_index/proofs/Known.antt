@@ -1,10 +1,11 @@
 -- The destinations of the live ids, with one id more and with one less, and what a walk by them finds.
 use Rattle.std.proofs.Common.{◌≡◌, ◌≢◌, ℕ, ◌<◌, ◌≤◌, ◌⊎◌, Bool, true, false, Option, Some, None, IfSome, Vec, List, [], ◌∷◌, ◌++◌, length, map, filter, replicate, Contains, arith, inl, inr, refl, sym, ◌∙◌, ap, subst, eqb-true, eq-eqb}
-use Rattle.std.specs.Prelude.{◌==◌, nat_eq, nat_le, not, is_some, slice_set, slice_index_or}
+use Rattle.std.specs.Prelude.{◌↔◌, ◌==◌, nat_eq, nat_le, not, is_some, slice_set, slice_index_or}
 use Rattle.std.specs.List.{IsDistinct}
 use Rattle.std.proofs.lemmas.Bool.{both_ways, cases_eq, cond-true, cond-false, and_parts, not-true, ne_eqb, leb-true, cases_lt, le-leb}
 use Rattle.std.proofs.lemmas.List.{get_or_default, get_or-replicate, get_or_past, get_or-set_same, get_or-set_other, length-set, length-replicate}
 use Rattle.std.proofs.lemmas.List.Elements.{Contains-append_left, Contains-append_right, Contains-push_cases, recursion_from_All}
+use Rattle.slot_order.specs.Order.{most_slots}
 use Rattle.slot_order.proofs.Lists.{contains_head, contains_none, in_map, map_in, in_filter, filter_in, AllByRecursion-member}
 use Rattle.rule_model.specs.AddressBlock.{AddressBlock, block_holds}
 use Rattle.rule_model.specs.Rule.{blocks_meet}
@@ -30,14 +31,24 @@ no_route slots id = elim (cases_lt id slots) [
   | inr le ↦ let size = length-replicate {A = Option Route} slots None in get_or_past (replicate slots None) id None (omega arith)
 ]
 
+-- nothing is live
+pub destinations_none : (slots : ℕ) → AreDestinations slots [] (replicate slots None)
+destinations_none slots = record {
+  many = length-replicate slots None;
+  from = λ id route has. absurd (cc (has, no_route slots id));
+  to = λ one c. absurd (contains_none one c);
+}
+
 pub known_none : (slots : ℕ) (known : Option Routes) → ((routes : Routes) → known ≡ Some routes → routes ≡ replicate slots None) → AreIfKnown slots [] known
-known_none slots known none routes routes_is =
-    let same : replicate slots None ≡ routes = sym (none routes routes_is) in
-    subst (AreDestinations slots []) same (record {
-      many = length-replicate slots None;
-      from = λ id route has. absurd (cc (has, no_route slots id));
-      to = λ one c. absurd (contains_none one c);
-    })
+known_none slots known none routes routes_is = subst (AreDestinations slots []) (sym (none routes routes_is)) (destinations_none slots)
+
+-- the same pieces in another order have the same
+pub destinations_same : (slots : ℕ) (live other : List LivePiece) (routes : Routes) → ((one : LivePiece) → Contains live one ↔ Contains other one) → AreDestinations slots live routes → AreDestinations slots other routes
+destinations_same slots live other routes same known = record {
+  many = known.many;
+  from = λ id route has. let one = known.from id route has in (one.0, (same one.0).0 one.1, one.2, one.3);
+  to = λ one c. known.to one ((same one).1 c);
+}
 
 -- an id that isn't live has none
 pub route_absent : (slots : ℕ) (live : List LivePiece) (routes : Routes) → AreDestinations slots live routes → (id : ℕ) → is_live live id ≡ false → route_of routes id ≡ None
@@ -128,7 +139,7 @@ swapped : (a b : AddressBlock) → AreNested a b → AreNested b a
 swapped a b (inl ab) = inr ab
 swapped a b (inr ba) = inl ba
 
-over_nested : (upper lower : LivePiece) → is_over upper lower ≡ true → AreNested lower.piece.dst upper.piece.dst
+pub over_nested : (upper lower : LivePiece) → is_over upper lower ≡ true → AreNested lower.piece.dst upper.piece.dst
 over_nested upper lower e =
     let blocks = (and_parts _ _ (and_parts _ _ (and_parts _ _ (and_parts _ _ e).0).0).0).0 in
     nested_from upper.piece.dst lower.piece.dst (and_parts _ _ blocks).1
@@ -138,7 +149,7 @@ on_nested Above other of e = over_nested other of e
 on_nested Below other of e = swapped other.piece.dst of.piece.dst (over_nested of other e)
 
 -- of the ids that a walk finds those on one side of a piece are all on that side
-pub on_walked : (side : Side) (of : LivePiece) (slots : ℕ) (live pieces : List LivePiece) (routes : Routes) (ids named : List ℕ) → slots ≤ 65536 → AreApart slots live → AreDestinations slots live routes
+pub on_walked : (side : Side) (of : LivePiece) (slots : ℕ) (live pieces : List LivePiece) (routes : Routes) (ids named : List ℕ) → slots ≤ most_slots → AreApart slots live → AreDestinations slots live routes
     → AreAllNested routes of.piece.dst ids → map (λ (one : LivePiece). one.id) pieces ≡ ids → ((one : LivePiece) → Contains pieces one → Contains live one) → named ≡ ids_on side of pieces → AreOn side of live named
 on_walked side of slots live pieces routes ids named most apart known all ids_is standing is =
     let dense : AreApart slots pieces = record {
@@ -183,15 +194,21 @@ ids_of Above above below = above
 ids_of Below above below = below
 
 -- what a walk finds is live
-pub walked_live : (slots : ℕ) (live : List LivePiece) (routes : Routes) (block : AddressBlock) (ids : List ℕ) → AreDestinations slots live routes → AreAllNested routes block ids → (id : ℕ) → Contains ids id
+walked_live : (slots : ℕ) (live : List LivePiece) (routes : Routes) (block : AddressBlock) (ids : List ℕ) → AreDestinations slots live routes → AreAllNested routes block ids → (id : ℕ) → Contains ids id
     → is_live live id ≡ true
 walked_live slots live routes block ids known all id c =
     let has = (all.exact id).0 c in
     let one = known.from id has.route has.has in
     subst (λ k. is_live live k ≡ true) one.2 (is_live_from live one.0 one.1)
 
+-- and so are all that are read of it
+pub walked_all : (slots : ℕ) (live : List LivePiece) (known : Option Routes) (block : AddressBlock) (ids named : List ℕ) → named ≡ ids → AreIfKnown slots live known → IsWalk known block ids → (id : ℕ) → Contains named id
+    → is_live live id ≡ true
+walked_all slots live known block ids named same if_known walked id c =
+    walked_live slots live walked.0 block ids (if_known walked.0 walked.1) walked.2 id (subst (λ xs. Contains xs id) same c)
+
 -- of the ids that a walk finds those on either side
-pub on_among : (side : Side) (of : LivePiece) (slots : ℕ) (live : List LivePiece) (known : Option Routes) (ids above below : List ℕ) → slots ≤ 65536 → AreApart slots live → AreIfKnown slots live known
+pub on_among : (side : Side) (of : LivePiece) (slots : ℕ) (live : List LivePiece) (known : Option Routes) (ids above below : List ℕ) → slots ≤ most_slots → AreApart slots live → AreIfKnown slots live known
     → IsWalk known of.piece.dst ids → AreAmong of live ids above below → AreOn side of live (ids_of side above below)
 on_among Above of slots live known ids above below most apart if_known walked among =
     on_walked Above of slots live among.pieces walked.0 ids above most apart (if_known walked.0 walked.1) walked.2 among.named among.standing among.on_above

@@ -1,8 +1,10 @@
 mod Examples
 mod InBuckets
 mod Linked
+mod Paired
 mod Parts
 mod Passed
+mod Refused
 mod Paths
 mod Placed
 mod Places
@@ -11,4 +13,7 @@ mod Sides
 mod Taken
 pub mod Came
 mod Known
+mod Routed
+mod Told
 mod Among
+mod Beside

@@ -7,6 +7,7 @@ use Rattle.std.proofs.lemmas.List.{length-map}
 use Rattle.std.proofs.lemmas.List.Elements.{Contains-append_left, Contains-append_right, Contains-push_cases}
 use Rattle.std.proofs.lemmas.List.Sums.{length-filter, count_by-le-length}
 use Rattle.std.proofs.lemmas.Map.Steps.{length-le_from_distinct_below}
+use Rattle.slot_order.specs.Order.{most_slots}
 use Rattle.slot_order.proofs.Lists.{contains_head, contains_none, AllByRecursion-member, any_is, in_map, map_in, in_filter, filter_in}
 use Rattle.order_chains.specs.Pairs.{Pairs, HasPair, has_end, without}
 use Rattle.overlap_index.specs.declared.scan.Side.{Side}
@@ -21,7 +22,7 @@ use Rattle.overlap_index.proofs.Placed.{apart_placed, on_more}
 use Rattle.order_chains.proofs.Seen.{roomy_pairs, without_pairs}
 
 -- what stands above what, from the two pieces
-is_over_of : {live : List LivePiece} {upper lower : ℕ} (w : IsOver live upper lower) → is_over w.upper w.lower ≡ true
+pub is_over_of : {live : List LivePiece} {upper lower : ℕ} (w : IsOver live upper lower) → is_over w.upper w.lower ≡ true
 is_over_of w = and_from _ _ w.meet (lt-ltb w.lower.rank w.upper.rank w.less)
 
 over_above : (live : List LivePiece) (upper lower : ℕ) → IsOver live upper lower → is_above live upper lower ≡ true
@@ -85,7 +86,7 @@ pub pieces_size : (slots : ℕ) (live pieces : List LivePiece) (places : List �
 pieces_size slots live pieces places apart table = live_size slots pieces (apart_placed slots live pieces places apart table)
 
 -- what is found in any order is what is live
-pub on_found : (side : Side) (of : LivePiece) (slots : ℕ) (live pieces : List LivePiece) (places named : List ℕ) → slots ≤ 65536 → AreApart slots live → ArePlaced slots live pieces places
+pub on_found : (side : Side) (of : LivePiece) (slots : ℕ) (live pieces : List LivePiece) (places named : List ℕ) → slots ≤ most_slots → AreApart slots live → ArePlaced slots live pieces places
     → named ≡ ids_on side of pieces → AreOn side of live named
 on_found side of slots live pieces places named most apart table is =
     let dense = apart_placed slots live pieces places apart table in
@@ -113,6 +114,21 @@ linked_none edges none = record {
   linked = λ upper lower. (
     λ has. absurd (contains_none (Some (upper, lower)) (subst (λ xs. Contains xs (Some (upper, lower))) none has)),
     λ e. absurd (let w = above_is [] upper lower e in contains_none w.upper w.has_upper),
+  );
+}
+
+-- what is above another in some is in others that have them all
+above_more : (some all : List LivePiece) → ((one : LivePiece) → Contains some one → Contains all one) → (upper lower : ℕ) → is_above some upper lower ≡ true → is_above all upper lower ≡ true
+above_more some all more upper lower e =
+    let w = above_is some upper lower e in
+    over_above all upper lower (record { upper = w.upper; lower = w.lower; has_upper = more w.upper w.has_upper; has_lower = more w.lower w.has_lower; upper_id = w.upper_id; lower_id = w.lower_id; meet = w.meet; less = w.less })
+
+-- the same pieces in another order have the same links
+pub linked_same : (edges : Pairs) (live other : List LivePiece) → ((one : LivePiece) → Contains live one ↔ Contains other one) → AreLinked edges live → AreLinked edges other
+linked_same edges live other same links = record {
+  linked = λ upper lower. (
+    λ has. above_more live other (λ one. (same one).0) upper lower ((links.linked upper lower).0 has),
+    λ e. (links.linked upper lower).1 (above_more other live (λ one. (same one).1) upper lower e),
   );
 }
 

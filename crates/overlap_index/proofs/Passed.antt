@@ -87,6 +87,10 @@ skip_one : (side : Side) (of : LivePiece) (live : List LivePiece) (k : ℕ) → 
     → ids_on side of (drop k live) ≡ ids_on side of (drop (k + 1) live)
 skip_one side of live k inside off = ap (ids_on side of) (drop_more live k of inside) ∙ ap (map (λ one. one.id)) (cond-false _ _ _ off)
 
+-- a place whose piece isn't on the side is passed
+pub pass_miss : (side : Side) (of d : LivePiece) (pieces : List LivePiece) (at : ℕ) → at < length pieces → is_on side (get_or pieces at d) of ≡ false → ids_on side of (drop at pieces) ≡ ids_on side of (drop (at + 1) pieces)
+pass_miss side of d pieces at inside off = ap (ids_on side of) (drop_more pieces at d inside) ∙ ap (map (λ (x : LivePiece). x.id)) (cond-false _ _ _ off)
+
 ids_first : (side : Side) (of one : LivePiece) (live : List LivePiece) → ids_on side of (one ∷ live) ≡ ids_on side of (one ∷ []) ++ ids_on side of live
 ids_first side of one live = elim (cases_Bool (is_on side one of)) [
   | inl on ↦ ap (map (λ (x : LivePiece). x.id)) (cond-true _ _ _ on) ∙ sym (ap (λ xs. map (λ (x : LivePiece). x.id) xs ++ ids_on side of live) (cond-true _ _ _ on))

@@ -67,6 +67,14 @@ found_at slots id place live pieces places one apart table is read found =
     sym here.here ∙ ap (λ n. get_or pieces n here.one) (sym at.is) ∙ get_or_default pieces place here.one one at.inside ∙ sym found in
     record { has = subst (Contains live) same here.has; named = sym (ap (λ (x : LivePiece). x.id) same) ∙ here.named }
 
+-- and so is what stands at the place of one
+pub found_there : (slots id : ℕ) (live pieces : List LivePiece) (places : List ℕ) (one : LivePiece) → ArePlaced slots live pieces places → is_live live id ≡ true → one ≡ get_or pieces (get_or places id 0) one
+    → FoundAt live id one
+found_there slots id live pieces places one table is found =
+    let here = stands_at slots id live pieces places table is in
+    let same : here.one ≡ one = sym here.here ∙ (get_or_default pieces (get_or places id 0) here.one one here.inside ∙ sym found) in
+    record { has = subst (Contains live) same here.has; named = sym (ap (λ (x : LivePiece). x.id) same) ∙ here.named }
+
 -- the last piece is live
 pub last_small : (slots : ℕ) (live pieces : List LivePiece) (places : List ℕ) (last : LivePiece) → AreApart slots live → ArePlaced slots live pieces places → 1 ≤ length pieces
     → last ≡ get_or pieces (length pieces - 1) last → last.id < slots
@@ -207,11 +215,12 @@ placed_less slots id live pieces new places last apart old is end closes = recor
               ∙ was ∙ m.1
         ]
 
--- the ids of pieces that have a place each are distinct
-pub apart_placed : (slots : ℕ) (live pieces : List LivePiece) (places : List ℕ) → AreApart slots live → ArePlaced slots live pieces places → AreApart slots pieces
-apart_placed slots live pieces places apart table = record {
+-- the ids of live pieces that have a place each are distinct
+pub apart_standing : (slots : ℕ) (live pieces : List LivePiece) (places : List ℕ) → AreApart slots live → ((one : LivePiece) → Contains pieces one → Contains live one)
+    → ((k : ℕ) (one : LivePiece) → k < length pieces → get_or pieces k one ≡ one → get_or places one.id 0 ≡ k) → AreApart slots pieces
+apart_standing slots live pieces places apart standing placed = record {
   small = recursion_from_All (λ one. one.id < slots) pieces (λ k d inside.
-      AllByRecursion-member (λ (x : LivePiece). x.id < slots) live (get_or pieces k d) apart.small ((table.same (get_or pieces k d)).0 (k, inside, here k d inside)));
+      AllByRecursion-member (λ (x : LivePiece). x.id < slots) live (get_or pieces k d) apart.small (standing (get_or pieces k d) (k, inside, here k d inside)));
   once = IsDistinct-from_apart nat_eq ids (λ i j d less inside. false_from_ne_true _ (λ e.
       let size = length-map pieces (λ (one : LivePiece). one.id) in
       let first : i < length pieces = omega arith in
@@ -219,7 +228,7 @@ apart_placed slots live pieces places apart table = record {
       let same : (get_or pieces i none).id ≡ (get_or pieces j none).id =
       sym (get_or-map (λ (one : LivePiece). one.id) pieces i none d first) ∙ eqb-true (get_or ids i d) (get_or ids j d) e ∙ get_or-map (λ (one : LivePiece). one.id) pieces j none d second in
       let meet : i ≡ j =
-      sym (table.placed i (get_or pieces i none) first (here i none first)) ∙ ap (λ z. get_or places z 0) same ∙ table.placed j (get_or pieces j none) second (here j none second) in
+      sym (placed i (get_or pieces i none) first (here i none first)) ∙ ap (λ z. get_or places z 0) same ∙ placed j (get_or pieces j none) second (here j none second) in
       absurd (omega arith)));
 }
   where
@@ -228,6 +237,9 @@ apart_placed slots live pieces places apart table = record {
 
     here : (k : ℕ) (d : LivePiece) → k < length pieces → get_or pieces k (get_or pieces k d) ≡ get_or pieces k d
     here k d inside = get_or_default pieces k (get_or pieces k d) d inside
+
+pub apart_placed : (slots : ℕ) (live pieces : List LivePiece) (places : List ℕ) → AreApart slots live → ArePlaced slots live pieces places → AreApart slots pieces
+apart_placed slots live pieces places apart table = apart_standing slots live pieces places apart (λ one. (table.same one).0) table.placed
 
 -- what stands on one side of a piece among some, stands there among others that have them all
 pub on_more : (side : Side) (of : LivePiece) (some all : List LivePiece) → ((one : LivePiece) → Contains some one → Contains all one) → (id : ℕ) → Contains (ids_on side of some) id

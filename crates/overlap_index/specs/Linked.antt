@@ -1,11 +1,9 @@
 -- The live ids that overlap, linked.
-use Rattle.std.specs.Prelude.{◌≡◌, ℕ, ◌<◌, ◌≤◌, ◌↔◌, ◌⊎◌, List, Option, Some, IsTrue, Contains, length, slice_index, slice_index_or}
+use Rattle.std.specs.Prelude.{◌≡◌, ℕ, ◌<◌, ◌↔◌, ◌⊎◌, List, Option, Some, IsTrue, Contains, length, slice_index, slice_index_or}
 use Rattle.order_chains.specs.Pairs.{Pairs, HasPair}
 use Rattle.prefix_trie.specs.Routes.{Route, Routes, route_of}
 use Rattle.placement.specs.declared.LivePiece.{LivePiece}
-use Rattle.placement.specs.Live.{AreApart, is_above}
-use Rattle.overlap_index.specs.Buckets.{Links, AreBuckets}
-use Rattle.overlap_index.specs.Near.{SpanColumns, columns_of}
+use Rattle.placement.specs.Live.{is_above}
 
 -- of two live ids one is linked as the upper one of the other exactly where it is above it
 pub record AreLinked (edges : Pairs) (live : List LivePiece) : Type 0 where
@@ -26,18 +24,6 @@ pub record AreDestinations (slots : ℕ) (live : List LivePiece) (routes : Route
 -- where they are known
 abbrev pub AreIfKnown : ℕ → List LivePiece → Option Routes → Type 0
 AreIfKnown slots live known = (routes : Routes) → known ≡ Some routes → AreDestinations slots live routes
-
--- the parts of an index: what is live in the order of its coming, the same in any order, the place of each id, the ids in
--- buckets, the columns beside the pieces, the destinations, and the links
-pub record AreParts (slots : ℕ) (live pieces : List LivePiece) (places : List ℕ) (buckets : Links) (columns : SpanColumns) (destinations : Option Routes) (edges : Pairs) : Type 0 where
-  pub most : slots ≤ 65536
-  pub apart : AreApart slots live
-  pub table : ArePlaced slots live pieces places
-  pub found : AreBuckets slots live buckets
-  pub beside : columns ≡ columns_of pieces
-  pub known : AreIfKnown slots live destinations
-  pub nodes : edges.ids ≡ slots
-  pub links : AreLinked edges live
 
 -- these pairs are there beside those before, and no others
 abbrev pub HaveMore : Pairs → Pairs → (ℕ → ℕ → Type 0) → Type 0

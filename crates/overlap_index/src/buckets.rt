@@ -9,6 +9,7 @@ ghost use Rattle.std.specs.Iterator.{YieldsFirst, item_count};
 ghost use Rattle.overlap_index.specs.Buckets.{IsOnPath, before_of, bucket_of, ids_in, mixed, next_of, no_links, with_first, without_link};
 
 use rule_model::{Piece, Rank};
+use slot_order::MOST_SLOTS;
 use std::alloc::{AllocError, Global};
 use std::marker::Model;
 
@@ -32,19 +33,20 @@ pub(crate) struct Buckets {
 
 impl Model for Buckets {
     ghost use Rattle.std.specs.Prelude.{◌≡◌, ◌+◌, ◌≤◌, length};
+    ghost use Rattle.slot_order.specs.Order.{most_slots};
     ghost use Rattle.overlap_index.specs.Buckets.{Links};
 
     ghost Value = { Links };
 
     ghost view = { λ b. record { slots = b.slots; nexts = b.nexts.items } };
 
-    ghost invariant = { λ b. (1 ≤ b.slots) × (b.slots ≤ 65536) × (length b.nexts.items ≡ b.slots + b.slots) };
+    ghost invariant = { λ b. (1 ≤ b.slots) × (b.slots ≤ most_slots) × (length b.nexts.items ≡ b.slots + b.slots) };
 }
 
 impl Buckets {
     /// As many empty buckets as ids.
     pub(crate) fn new(alloc: Global, slots: u32) -> Result<Buckets, AllocError>
-        requires { (1 ≤ slots) × (slots ≤ 65536) }
+        requires { (1 ≤ slots) × (slots ≤ MOST_SLOTS) }
         ensures { IfOk result (λ buckets. buckets ≡ no_links slots) }
     {
         let nexts = Vec::from_elem(alloc, NIL, slots as usize + slots as usize)?;
@@ -148,7 +150,7 @@ impl<'a> Iterator for Bucket<'a> {
 
 /// The bucket of a piece and its priority, as the place of its first id.
 fn bucket_of(slots: u32, piece: &Piece, priority: Rank) -> u32
-    requires { (1 ≤ slots) × (slots ≤ 65536) }
+    requires { (1 ≤ slots) × (slots ≤ MOST_SLOTS) }
     ensures bucket { result ≡ bucket_of slots piece.now priority }
     ensures inside { (slots ≤ result) × (result < slots + slots) }
 {

@@ -5,11 +5,12 @@ ghost use Rattle.prefix_trie.specs.Nested.{AreAllNested};
 
 use prefix_trie::PrefixTrie;
 use rule_model::Prefix;
+use slot_order::MOST_SLOTS;
 use std::alloc::{AllocError, Global};
 use std::marker::Model;
 
 /// With fewer ids a pass over all that is live takes less time than to keep a trie.
-const MANY: u32 = 2_048;
+pub(crate) const MANY: u32 = 2_048;
 
 /// The destination of each live id, or nothing: there is none for few ids, and it is given up for good once two ids have
 /// one destination, as those of lists soon do, or memory is wanting.
@@ -31,8 +32,9 @@ impl Destinations {
     /// Those of no id, where there are many.
     pub(crate) fn new(alloc: Global, ids: u32) -> Result<Destinations, AllocError>
         requires some { 1 ≤ ids }
-        requires most { ids ≤ 65536 }
-        ensures { IfOk result (λ destinations. (routes : Routes) → destinations ≡ Some routes → routes ≡ replicate ids None) }
+        requires most { ids ≤ MOST_SLOTS }
+        ensures none { IfOk result (λ destinations. (routes : Routes) → destinations ≡ Some routes → routes ≡ replicate ids None) }
+        ensures known { IfOk result (λ destinations. MANY ≤ ids → IsSome destinations) }
     {
         if ids < MANY {
             return Ok(Destinations { trie: None });
@@ -73,7 +75,8 @@ impl Destinations {
     /// An id goes.
     pub(crate) fn leave(&mut self, id: u32)
         requires { (routes : Routes) → self.old ≡ Some routes → IsSome (route_of routes id) }
-        ensures { (routes : Routes) → self.new ≡ Some routes → (before : Routes) × (self.old ≡ Some before) × (routes ≡ slice_set before id None) }
+        ensures gone { (routes : Routes) → self.new ≡ Some routes → (before : Routes) × (self.old ≡ Some before) × (routes ≡ slice_set before id None) }
+        ensures known { IsSome self.old → IsSome self.new }
     {
         let Some(mut trie) = self.trie.take() else {
             return;

@@ -5,14 +5,19 @@
 //! `is_above` says it of two, `rank_of` tells an id's priority, and `id_of` finds one by its piece and its priority.
 //!
 //! # The one hard idea
-//! Which ids overlap is found once, when an id comes, and not at each question: each pair of overlapping ids is a link
-//! that both ends lead to, and a question only follows the links of its id. To ask of two ids needs no link: a table
-//! has the place of each, and the pieces that stand there are compared.
+//! What is kept of overlaps goes by what is live (`ties`). Where there are many ids, and as long as all are routes and no
+//! two have one destination, it is a trie of the destinations and nothing else: of two routes that overlap one lies in the
+//! other, so the bounds of a gap are told by the trie (`last_above`, `first_below`), and no list of what overlaps is made as
+//! ids come. Who asks for one all the same has it by a pass over all that is live.
 //!
-//! Where there are many ids, and as long as no two live pieces have one destination, as the routes of a table, the destinations
-//! stand in a trie, and what overlaps a new one covers it or lies in it there: a walk finds these, and a table's other pieces
-//! aren't looked at (`destinations`). Each of them is compared by priority and piece all the same, so that nothing is asked of
-//! their kind.
+//! Once another piece comes the pairs of all are made, and kept from then on: which ids overlap is found once, when an id
+//! comes, and not at each question. Each pair of overlapping ids is a link that both ends lead to, and a question only
+//! follows the links of its id. To ask of two ids needs no link: a table has the place of each, and the pieces that stand
+//! there are compared.
+//!
+//! Where there are many ids, and as long as no two live pieces have one destination, what overlaps a new one is found by a
+//! walk in a trie of these: it covers the new destination or lies in it, and a table's other pieces aren't looked at
+//! (`destinations`). Each of them is compared by priority and piece all the same, so that nothing is asked of their kind.
 //!
 //! Where two have one destination, as in lists, the trie is given up for good, and a new id is compared with every live
 //! piece, as it is where there are few ids. But most of them have nothing to do with it, and almost all are told
@@ -35,17 +40,20 @@
 //!
 //! # What it cost
 //! A question costs time by the number of ids that it names, and not by the number of live pieces, and `is_above`,
-//! `is_live` and `rank_of` take the same time whatever is live. `add` walks by as many nodes as there are on the way to its
+//! `is_live` and `rank_of` take the same time whatever is live; only `above` and `below` of an index that is told pass over all
+//! that is live. There `add` takes a way down the trie, and the first piece that is no route costs as much as all that are live
+//! would, had they come to a list. Else `add` walks by as many nodes as there are on the way to its
 //! destination and inside it, or passes over the live pieces once, eight in a step, where these are more than one in 32 of
-//! them, since a node costs some hundred instructions and a piece that is passed over three, and where there is no trie;
+//! them, since a node costs some sixty instructions and a piece that is passed over three, and where there is no trie;
 //! `id_of` looks at the ids of one bucket, and there are as many buckets as ids; `remove` takes as many steps as there are
 //! links that go, and at most one for each id of a bucket, and moves one piece. Least and greatest numbers, and not
 //! number and mask, are in the columns, since the order of numbers is all that the proof needs then.
 //!
-//! Only `new` and `add` take memory: 64 bytes an id beside the piece, which stands once, at most 96 a destination in the
-//! trie, and 24 bytes a pair of ids that overlap, whose room doubles where it grows. The worst list, each piece over each
-//! other, has n (n - 1) / 2 pairs: 12 bytes times n squared, 201 MB at 4,096 ids and 51 GB at 65,536, in a block with room
-//! for up to twice as many.
+//! Only `new` and `add` take memory: 16 bytes an id beside the piece, which stands once, at most 96 a destination in the
+//! trie, and once pairs are kept 48 more an id, and 24 bytes a pair of ids that overlap, whose room doubles where it grows.
+//! The worst list, each piece over each other, has n (n - 1) / 2 pairs: 12 bytes times n squared, 201 MB at 4,096 ids and
+//! 51 GB at 65,536, in a block with room for up to twice as many; from 92,682 ids on it has more pairs than links can be
+//! numbered, and `add` is refused.
 //!
 //! # What isn't promised
 //! Any order of the ids that are named. Lists in which many rules have both blocks and their ports in common, `any`
@@ -54,10 +62,16 @@
 //! chooses the rules can choose such that all lead to one bucket. Then `id_of` and `remove` look at each live id.
 //!
 //! # Decided
-//! - **The trie knows destinations and no slots.** With slots it would tell the bounds of a gap without a list of what
-//!   overlaps, but each write of the planner would have to be made in it too, and the manager would carry it beside its
-//!   arrangement. So it only takes the place of the pass, and no contract above says more or less.
-//! - **A trie that finds no memory is let go**, so that a refusal still leaves all as before, and no refusal is its own.
+//! - **The trie is told where ids stand, as long as all are routes** (`stand`, `is_told`). Then it tells the bounds of a gap
+//!   without a list of what overlaps (`last_above`, `first_below`). It follows no move: whoever makes moves tells where the ids
+//!   stand once they are made.
+//! - **No pair is kept while it is told**: a default route over a million others has a million pairs, 24 MB, and nobody asks
+//!   for them, since of routes nothing crosses. So lists of overlaps are made by whoever asks (`overlaps`), and the first
+//!   piece that is no route, or has a route's destination, pays for the pairs of all: they are made before anything changes,
+//!   and let go where memory ends, so that a refusal leaves all as before. From then on nothing is told, also where all
+//!   others go again.
+//! - **A trie beside pairs that finds no memory is let go**, so that no refusal is its own; of one that is told it is that of
+//!   `add`.
 //! - **The id of a piece is found by buckets that are linked by numbers** (`id_of`), and not by the pass that finds its
 //!   overlaps, as it once was: a commit asks for each entry that it rewrites or erases, and paid for the whole table each
 //!   time. The price is 8 bytes an id. A map of the kit would ask for memory as ids come, take some 20 bytes an id and
@@ -71,12 +85,12 @@
 //!   what is linked with a plain scan.
 #![tactic(auto)]
 
-ghost use Rattle.std.specs.Prelude.{◌≡◌, ◌<◌, ◌≤◌, ◌↔◌, ℕ, [], ◌∷◌, ◌++◌, length, IsTrue, IsFalse, IsNone, IfSome, IfOk, OnOk, OnErr, Contains, nat_eq};
+ghost use Rattle.std.specs.Prelude.{◌≡◌, ◌<◌, ◌≤◌, ◌-◌, ◌^◌, ◌↔◌, ℕ, [], ◌∷◌, ◌++◌, IsTrue, IsFalse, IsNone, IfSome, IfOk, OnOk, OnErr, Contains, is_some, nat_eq};
 ghost use Rattle.std.specs.List.{IsDistinct};
+ghost use Rattle.std.specs.Option.{ForSome};
 ghost use Rattle.placement.specs.declared.LivePiece.{LivePiece};
-ghost use Rattle.placement.specs.Live.{AreApart, is_live, is_above, without_id, ids_above, ids_below, rank_in};
-ghost use Rattle.overlap_index.specs.Sides.{AreAmong, AreOn};
-ghost use Rattle.overlap_index.specs.declared.scan.Side.TheVariants as side;
+ghost use Rattle.placement.specs.Live.{AreApart, IsLastTold, IsNextTold, IsToldAt, MayTell, is_live, is_above, without_id, ids_above, ids_below, rank_in};
+ghost use Rattle.overlap_index.specs.Sides.{ids_beside};
 
 mod buckets;
 mod columns;
@@ -84,26 +98,25 @@ mod destinations;
 mod links;
 mod near;
 mod overlaps;
+mod pairs;
+mod routes;
 mod scan;
+mod ties;
 
 use buckets::{Bucket, Buckets};
 use call_history::History;
-use columns::Columns;
-use destinations::Destinations;
-use links::{link_above, link_below};
-use order_chains::Edges;
 pub use overlaps::Overlaps;
+use overlaps::{Origin, Pass};
 use placement::LivePiece;
 use rule_model::{Piece, Rank};
-use scan::{Found, is_over, overlapping};
+use scan::{Side, is_over};
+use slot_order::MOST_SLOTS;
 use std::alloc::{AllocError, AllocFailed, Global};
 use std::marker::Model;
+use ties::Ties;
 
 /// The greatest number of ids.
-pub const MOST_IDS: u32 = 65_536;
-
-/// How many nodes a walk may look at where few pieces are live: some more than stand on the way to one.
-const LONG_WALK: usize = 64;
+pub const MOST_IDS: u32 = MOST_SLOTS;
 
 /// What became of an id, as the history of an index has it.
 #[derive(Drop)]
@@ -121,16 +134,12 @@ pub struct Index {
     slots: u32,
     // The live pieces, none twice. Where one goes the last takes its place.
     pieces: Vec<LivePiece>,
-    // Their addresses, in the same order.
-    columns: Columns,
-    // Their destinations, where no two are the same.
-    destinations: Destinations,
     // The place of each live id among them; what stands at another id is of no account.
     places: Vec<u32>,
     // The live ids, by their pieces and their priorities.
     buckets: Buckets,
-    // Which of them overlap.
-    edges: Edges,
+    // Where they stand, while all are routes, and else which of them overlap.
+    ties: Ties,
     // Which ids came and went, by which contracts know the order in which those that are live came.
     history: History<Change>,
     alloc: Global,
@@ -139,13 +148,13 @@ pub struct Index {
 impl Model for Index {
     ghost use Rattle.placement.specs.Live.{LivePieces};
     ghost use Rattle.overlap_index.specs.Changes.{live_after};
-    ghost use Rattle.overlap_index.specs.Linked.{AreParts};
+    ghost use Rattle.overlap_index.specs.Tied.{AreParts, told_of};
 
     ghost Value = { LivePieces };
 
-    ghost view = { λ i. record { slots = i.slots; live = live_after i.history.items } };
+    ghost view = { λ i. record { slots = i.slots; live = live_after i.history.items; told = told_of i.ties } };
 
-    ghost invariant = { λ i. AreParts i.slots (live_after i.history.items) i.pieces.items i.places.items i.buckets i.columns i.destinations i.edges };
+    ghost invariant = { λ i. AreParts i.slots (live_after i.history.items) i.pieces.items i.places.items i.buckets i.ties };
 }
 
 impl Index {
@@ -157,19 +166,15 @@ impl Index {
         ensures live { IfOk result (λ index. index.live ≡ []) }
     {
         let pieces = Vec::with_capacity(alloc, slots as usize)?;
-        let columns = Columns::new(alloc, slots as usize)?;
-        let destinations = Destinations::new(alloc, slots)?;
         let places = Vec::from_elem(alloc, 0, slots as usize)?;
         let buckets = Buckets::new(alloc, slots)?;
-        let edges = Edges::new(alloc, slots)?;
+        let ties = Ties::new(alloc, slots)?;
         Ok(Index {
             slots,
             pieces,
-            columns,
-            destinations,
             places,
             buckets,
-            edges,
+            ties,
             history: History::new(),
             alloc,
         })
@@ -181,6 +186,7 @@ impl Index {
         requires absent { IsFalse (is_live self.old.live id) }
         ensures live { OnOk result (self.new.live ≡ self.old.live ++ record { id = id; piece = piece.now; rank = priority } ∷ []) }
         ensures slots { self.new.slots ≡ self.old.slots }
+        ensures told { OnOk result (MayTell self.old.told id self.new.told) }
         ensures refused { OnErr result (self.new ≡ self.old) }
     {
         let one = LivePiece {
@@ -188,18 +194,12 @@ impl Index {
             piece: *piece,
             rank: priority,
         };
-        let found = self.overlapping(&one)?;
-        // Room comes first: once the columns are pushed, nothing can fail.
-        self.edges
-            .reserve((found.above.len() + found.below.len()) as u32)?;
         self.pieces.reserve(1)?;
-        self.columns.push(piece)?;
+        self.ties
+            .more(self.alloc, self.slots, &self.pieces, &self.places, &one)?;
         self.places[id as usize] = self.pieces.len() as u32;
         self.pieces.push_reserved(one);
-        link_above(&mut self.edges, &found.above, id);
-        link_below(&mut self.edges, id, &found.below);
         self.buckets.came(id, piece, priority);
-        self.destinations.enter(id, &piece.dst);
         self.history = self.history.and(&Change::Came(one));
         Ok(())
     }
@@ -209,6 +209,7 @@ impl Index {
         requires { IsTrue (is_live self.old.live id) }
         ensures live { self.new.live ≡ without_id self.old.live id }
         ensures slots { self.new.slots ≡ self.old.slots }
+        ensures told { MayTell self.old.told id self.new.told }
     {
         let one = *self.piece_of(id);
         self.buckets.went(id, &one.piece, one.rank);
@@ -216,10 +217,64 @@ impl Index {
         let last = self.pieces[self.pieces.len() - 1].id;
         self.places[last as usize] = place as u32;
         self.pieces.swap_remove(place);
-        self.columns.remove(place);
-        self.edges.drop_node(id);
-        self.destinations.leave(id);
+        self.ties.less(id, place);
         self.history = self.history.and(&Change::Went(id));
+    }
+
+    /// Whether it is kept where the ids stand: as long as all are routes, and no two have one destination. Then what is
+    /// above an id is above all that it is above, since of routes that overlap the shorter covers the longer.
+    pub fn is_told(&self) -> bool
+        ensures told { result ≡ is_some self.now.told }
+        ensures nested { IsTrue result → (upper middle lower : ℕ) → IsTrue (is_above self.now.live upper middle) → IsTrue (is_above self.now.live middle lower) → IsTrue (is_above self.now.live upper lower) }
+        ensures apart { AreApart self.now.slots self.now.live }
+    {
+        match &self.ties {
+            Ties::Told(trie) => {
+                trie.are_apart();
+                true
+            }
+            Ties::Linked(_) => false,
+        }
+    }
+
+    /// Tells where a live id stands: in a slot, or in none. An id that becomes live stands in none.
+    pub fn stand(&mut self, id: u32, slot: Option<u32>)
+        requires live { IsTrue (is_live self.old.live id) }
+        requires small { IfSome slot (λ at. at < 2 ^ 32 - 1) }
+        ensures live { self.new.live ≡ self.old.live }
+        ensures slots { self.new.slots ≡ self.old.slots }
+        ensures told { IsToldAt self.old.told id slot self.new.told }
+        ensures kept { is_some self.new.told ≡ is_some self.old.told }
+    {
+        self.ties.stand(id, slot);
+    }
+
+    /// The greatest slot of what is above a live id, by what was told. No other id is looked at.
+    pub fn last_above(&self, id: u32) -> Option<u32>
+        requires { IsTrue (is_live self.now.live id) }
+        ensures { ForSome self.now.told (λ homes. IsLastTold (λ other. is_above self.now.live other id) homes result) }
+    {
+        match &self.ties {
+            Ties::Told(trie) => {
+                trie.are_apart();
+                trie.last_inside(id)
+            }
+            Ties::Linked(_) => None,
+        }
+    }
+
+    /// Of what is below a live id and stands in a slot, by what was told, the slot of that which is above all others.
+    pub fn first_below(&self, id: u32) -> Option<u32>
+        requires { IsTrue (is_live self.now.live id) }
+        ensures { ForSome self.now.told (λ homes. IsNextTold (is_above self.now.live) homes id result) }
+    {
+        match &self.ties {
+            Ties::Told(trie) => {
+                trie.are_apart();
+                trie.first_covering(id)
+            }
+            Ties::Linked(_) => None,
+        }
     }
 
     /// The live ids of higher priority whose pieces overlap that of a live id, each once, in any
@@ -230,8 +285,11 @@ impl Index {
         ensures once { IsDistinct nat_eq result }
         ensures apart { AreApart self.now.slots self.now.live }
     {
-        Overlaps {
-            partners: self.edges.above(id),
+        match &self.ties {
+            Ties::Linked(linked) => Overlaps {
+                origin: Origin::Linked(linked.edges.above(id)),
+            },
+            Ties::Told(_) => self.passed(id, Side::Above),
         }
     }
 
@@ -243,8 +301,11 @@ impl Index {
         ensures once { IsDistinct nat_eq result }
         ensures apart { AreApart self.now.slots self.now.live }
     {
-        Overlaps {
-            partners: self.edges.below(id),
+        match &self.ties {
+            Ties::Linked(linked) => Overlaps {
+                origin: Origin::Linked(linked.edges.below(id)),
+            },
+            Ties::Told(_) => self.passed(id, Side::Below),
         }
     }
 
@@ -320,32 +381,21 @@ impl Index {
         &self.pieces[self.places[id as usize] as usize]
     }
 
-    /// The live ids on either side of a piece: of those that a walk finds by their destinations, or else by a pass over all
-    /// live pieces. The walk looks at a piece at a time and the pass at eight, so a long walk is given up for the pass.
-    fn overlapping(&self, of: &LivePiece) -> Result<Found, AllocError>
-        ensures above { IfOk result (λ found. AreOn side.Above of.now self.now.live found.above.items) }
-        ensures below { IfOk result (λ found. AreOn side.Below of.now self.now.live found.below.items) }
+    /// A pass over all live pieces for those on one side of a live id.
+    fn passed(&self, id: u32, side: Side) -> Overlaps<'_>
+        requires { IsTrue (is_live self.now.live id) }
+        ensures exact { (other : ℕ) → Contains result other ↔ Contains (ids_beside side self.now.live id) other }
+        ensures once { IsDistinct nat_eq result }
+        ensures apart { AreApart self.now.slots self.now.live }
     {
-        let most = self.pieces.len() / 32 + LONG_WALK;
-        let walked = self.destinations.nested(self.alloc, &of.piece.dst, most)?;
-        match walked {
-            Some(ids) => self.among(of, &ids),
-            None => overlapping(self.alloc, of, &self.pieces, &self.columns),
+        let of = *self.piece_of(id);
+        Overlaps {
+            origin: Origin::Passed(Pass {
+                pieces: &self.pieces,
+                of,
+                side,
+                at: 0,
+            }),
         }
-    }
-
-    /// Of live ids those on either side of a piece.
-    fn among(&self, of: &LivePiece, ids: &[u32]) -> Result<Found, AllocError>
-        requires live { (id : ℕ) → Contains ids.now id → IsTrue (is_live self.now.live id) }
-        ensures { IfOk result (λ found. AreAmong of.now self.now.live ids.now found.above.items found.below.items) }
-    {
-        let mut found = Found {
-            above: Vec::new(self.alloc),
-            below: Vec::new(self.alloc),
-        };
-        for id in ids {
-            found.put(self.piece_of(*id), of)?;
-        }
-        Ok(found)
     }
 }

@@ -1,8 +1,9 @@
 -- An arrangement in which an id is to be placed, and what its chains go along.
 use Rattle.std.specs.Prelude.{◌≡◌, ◌≢◌, ℕ, ◌<◌, ◌≤◌, IsTrue, Option, None, Some, MatchOption, List, length, slice_index_or}
 use Rattle.slot_order.specs.Order.{slot, most_slots}
-use Rattle.slot_pool.specs.Arrangement.{Slots}
-use Rattle.placement.specs.Live.{LivePieces, AreApart, is_live, is_above}
+use Rattle.slot_pool.specs.Arrangement.{Slots, home_of}
+use Rattle.placement.specs.declared.LivePiece.{LivePiece}
+use Rattle.placement.specs.Live.{Homes, LivePieces, AreApart, home_in, is_live, is_above}
 use Rattle.placement.specs.Placement.{Above, StopsBelow, StopsAbove, step_down, step_up, IsInOrder}
 use Rattle.placement.specs.Insertion.{IsOther, StandOnce, free_slots}
 
@@ -38,3 +39,12 @@ pub record IsReady (index : LivePieces) (id : ℕ) (slots : Slots) : Type 0 wher
   pub apart : AreApart index.slots index.live
   pub standing : StandOnce (IsOther index.live id) slots
   pub order : IsInOrder (is_above index.live) slots
+
+-- Where this is kept each live id stands where that was told, but for some of them.
+abbrev pub AreToldBut : (ℕ → Type 0) → List LivePiece → Option Homes → Slots → Type 0
+AreToldBut Open live told slots =
+    (homes : Homes) → told ≡ Some homes → (id : ℕ) → IsTrue (is_live live id) → (Open id → ⊥) → home_in homes id ≡ home_of slots id
+
+-- each does
+abbrev pub IsTold : LivePieces → Slots → Type 0
+IsTold index slots = AreToldBut (λ id. ⊥) index.live index.told slots

@@ -7,7 +7,7 @@ use Rattle.std.proofs.lemmas.List.{get_or_past, get_or_default, get_or-set_same,
 use Rattle.rule_model.specs.AddressBlock.{AddressBlock, block_holds}
 use Rattle.prefix_trie.specs.declared.node.Node.{Node}
 use Rattle.prefix_trie.specs.Blocks.{IsInside}
-use Rattle.prefix_trie.specs.Routes.{Route, Routes, route_of, StandsInside, IsLastInside, StandsAround, IsNearestAround, IsAnswer}
+use Rattle.prefix_trie.specs.Routes.{AreApart, Route, Routes, route_of, StandsInside, IsLastInside, StandsAround, IsNearestAround, IsAnswer}
 use Rattle.prefix_trie.specs.Nodes.{node_at, bare, with_entry}
 use Rattle.prefix_trie.specs.Changes.{with_slot, moved}
 use Rattle.prefix_trie.proofs.Likes.{set_here, set_other}
@@ -281,3 +281,14 @@ near_of routes places nodes lent lent_is held id at read read_is at_is route has
 -- all of a list that takes another's place
 pub whole_of : {X : Type 0} (new old : List X) (n : ℕ) → length new ≡ n → take n (new ++ drop (length new) old) ≡ new
 whole_of new old n same = grind (arith, common_steps)
+
+-- no two ids have one prefix
+pub own_of : (routes : Routes) (places : List (Option ℕ)) (nodes : List (Option Node)) → IsTrie nodes → AreHeld routes places nodes → AreApart routes
+own_of routes places nodes trie held a b one other has_a has_b same =
+    let x = placed routes places nodes held a one has_a in
+    let y = placed routes places nodes held b other has_b in
+    let prefix : x.node.prefix ≡ y.node.prefix = sym (ap (λ (r : Route). r.block) x.same) ∙ (same ∙ ap (λ (r : Route). r.block) y.same) in
+    let at = trie.once x.at y.at x.node y.node x.is y.is prefix in
+    let node = one_node nodes y.at x.node y.node (subst (λ n. node_at nodes n ≡ Some x.node) at x.is) y.is in
+    let ids = ap (λ (n : Node). n.id) node in
+    cc (x.id_is, y.id_is, ids)

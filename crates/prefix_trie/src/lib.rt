@@ -30,7 +30,7 @@
 
 ghost use Rattle.std.specs.Prelude.{◌≡◌, ◌<◌, ◌≤◌, ◌-◌, ◌^◌, ℕ, Some, None, IsSome, IsTrue, IsFalse, IfSome, IfOk, OnErr, MatchOption, length, replicate, slice_set};
 ghost use Rattle.std.specs.Option.{ForSome};
-ghost use Rattle.prefix_trie.specs.Routes.{HasPrefix, IsAnswer, IsLastInside, IsNearestAround, IsNew, route_of};
+ghost use Rattle.prefix_trie.specs.Routes.{AreApart, HasPrefix, IsAnswer, IsLastInside, IsNearestAround, IsNew, route_of};
 ghost use Rattle.prefix_trie.specs.Changes.{with_slot};
 ghost use Rattle.prefix_trie.specs.Nested.{AreAllNested};
 
@@ -52,11 +52,12 @@ use node::{empty, is_empty};
 use place::Place;
 use rule_model::Prefix;
 use search::{Sought, deepest, id_in, nearest};
+use slot_order::MOST_SLOTS;
 use std::alloc::{AllocError, Global};
 use std::marker::Model;
 
 /// The greatest number of ids.
-pub const MOST_IDS: u32 = 1_048_576;
+pub const MOST_IDS: u32 = MOST_SLOTS;
 
 /// What became of an id, as the history of a trie has it.
 #[derive(Drop)]
@@ -222,6 +223,13 @@ impl PrefixTrie {
         ensures { IfOk result (λ found. IfSome found (λ ids. AreAllNested self.now prefix.now ids.items)) }
     {
         nested::nested(alloc, &self.nodes, prefix, most)
+    }
+
+    /// No two ids have one prefix.
+    pub fn are_apart(&self)
+        ensures { AreApart self.now }
+    {
+        let _ids = self.places.len();
     }
 
     /// The id that has a prefix.

@@ -2,7 +2,7 @@
 use Rattle.std.proofs.Common.{◌≡◌, ◌≢◌, ℕ, ◌+◌, ◌<◌, ◌≤◌, Bool, true, false, not, List, [], ◌∷◌, ◌++◌, length, map, take, drop, Contains, ◌⊎◌, inl, inr, refl, sym, ap, ap₂, subst, ◌∙◌, arith, ◌-◌}
 use Rattle.std.specs.Prelude.{◌==◌, ◌||◌, nat_eq}
 use Rattle.std.specs.List.{IsDistinct}
-use Rattle.std.proofs.lemmas.Bool.{false_from_ne_true, eq-eqb, and_from, lt-ltb}
+use Rattle.std.proofs.lemmas.Bool.{both_ways, false_from_ne_true, eq-eqb, and_from, lt-ltb}
 use Rattle.std.proofs.lemmas.Bool.Decides.{eqb_tells}
 use Rattle.std.proofs.lemmas.List.{length-append, length-map, append-nil, append_assoc, take-append-drop}
 use Rattle.std.proofs.lemmas.List.Elements.{filter-append}
@@ -10,7 +10,7 @@ use Rattle.std.proofs.lemmas.List.Folds.{list_any-append}
 use Rattle.slot_order.proofs.Lists.{contains_head, contains_tail, contains_cases, contains_none, map_in}
 use Rattle.slot_pool.specs.Arrangement.{Slots}
 use Rattle.placement.specs.declared.LivePiece.{LivePiece}
-use Rattle.placement.specs.Live.{AreApart, is_live, is_above, without_id}
+use Rattle.placement.specs.Live.{AreApart, MayTell, is_live, is_above, without_id}
 use Rattle.placement.proofs.Live.{apart_more, all_apart}
 use Rattle.placement.specs.declared.Move.{Move}
 use Rattle.placement.proofs.Chain.{write_of, after_moves-applied}
@@ -20,8 +20,9 @@ use Rattle.slot_order.specs.Order.{most_slots}
 use Rattle.placement.proofs.Above.{above_is, is_above_from, live_is, is_live_from}
 use Rattle.placement.specs.Placement.{IsInOrder, after_moves}
 use Rattle.placement.specs.Insertion.{IsLive, IsOther, StandOnce, free_slots}
-use Rattle.batch_order.specs.Entries.{Entries, AreLast}
+use Rattle.batch_order.specs.Entries.{AreTold, Entries, AreLast}
 use Rattle.batch_order.specs.Planning.{IsSettled, IsLastLive}
+use Rattle.batch_order.proofs.Told.{no_home, told_added}
 
 -- a member of a list and one more
 in_one_more : (live : List LivePiece) (one x : LivePiece) → Contains (live ++ one ∷ []) x → Contains live x ⊎ (one ≡ x)
@@ -64,8 +65,8 @@ above_before live one a b now left right =
 
 -- one more is live, and the others are settled
 pub last_live : (old new : Entries) (slots : Slots) (one : LivePiece) → IsSettled old slots → length old.live < old.slots → one.id < old.slots → is_live old.live one.id ≡ false
-    → new.live ≡ old.live ++ one ∷ [] → new.slots ≡ old.slots → IsLastLive new slots one.id
-last_live old new slots one settled room small absent live_is slots_is = record {
+    → new.live ≡ old.live ++ one ∷ [] → new.slots ≡ old.slots → MayTell old.told one.id new.told → AreTold old slots → IsLastLive new slots one.id
+last_live old new slots one settled room small absent live_is slots_is may told = record {
   room = (let more : length new.live ≡ length old.live + 1 = ap length live_is ∙ length-append old.live (one ∷ []) in let s = slots_is in omega arith);
   size = settled.size ∙ sym slots_is;
   few = subst (λ n. n ≤ most_slots) (sym slots_is) settled.few;
@@ -78,6 +79,7 @@ last_live old new slots one settled room small absent live_is slots_is = record 
   });
   order = subst (λ l. IsInOrder (is_above l) slots) (sym live_is) order;
   count = (let more : length new.live ≡ length old.live + 1 = ap length live_is ∙ length-append old.live (one ∷ []) in let was : free_slots slots + length old.live ≡ old.slots = settled.count in let s = slots_is in omega arith);
+  told = told_added old new slots one live_is may (no_home slots one.id (λ at stands. both_ways (is_live old.live one.id) absent (settled.standing.within at one.id stands))) told;
 }
   where
     other : (id : ℕ) → is_live old.live id ≡ true → id ≢ one.id

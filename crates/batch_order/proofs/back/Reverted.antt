@@ -1,8 +1,10 @@
 -- A commit that was taken back: the manager is as it was before it.
-use Rattle.std.proofs.Common.{◌≡◌, ℕ, zero, suc, ◌-◌, true, [], length, take, map, Option, Some, None, refl, sym, ap, subst, ◌∙◌, arith}
+use Rattle.std.proofs.Common.{◌≡◌, ℕ, ◌-◌, true, List, [], length, take, map, Option, Some, None, refl, sym, ap, subst, ◌∙◌, arith}
 use Rattle.std.proofs.lemmas.List.{length-map}
 use Rattle.slot_pool.specs.Arrangement.{Slots}
+use Rattle.rule_model.specs.declared.words.Entry.{Entry}
 use Rattle.rule_store.specs.Store.{StoredRules}
+use Rattle.placement.specs.declared.LivePiece.{LivePiece}
 use Rattle.tcam_device.specs.declared.Action.TheVariants.{Written}
 use Rattle.tcam_device.specs.State.{State, state_after}
 use Rattle.commit_writes.specs.Undo.{undo_writes}
@@ -26,6 +28,15 @@ pub record IsReverted (kept kept' : Entries) (held : Held) : Type 0 where
   pub live : kept'.live ≡ take (length kept.live - length held.ids.items) kept.live
   pub entries : KeepEntries kept'.live kept.entries kept'.entries
   pub slots : kept'.slots ≡ kept.slots
+
+-- also where it was told in between where ids stand
+pub reverted_behind : (kept between kept' : Entries) (held : Held) → between.live ≡ kept.live → between.entries ≡ kept.entries → between.slots ≡ kept.slots
+    → kept'.live ≡ take (length between.live - length held.ids.items) between.live → KeepEntries kept'.live between.entries kept'.entries → kept'.slots ≡ between.slots → IsReverted kept kept' held
+reverted_behind kept between kept' held live entries slots gone keeps size = record {
+  live = gone ∙ ap (λ (l : List LivePiece). take (length l - length held.ids.items) l) live;
+  entries = subst (λ (e : List (Option Entry)). KeepEntries kept'.live e kept'.entries) entries keeps;
+  slots = size ∙ slots;
+}
 
 module _ (translation : Option Translation) (rules : StoredRules) (kept kept' : Entries) (slots : Slots) (held : Held) (managed : IsManaged translation rules kept slots (Some held))
     (way : IsPrepared translation rules kept slots held.ids.items (held_writes kept.entries held) (as_writes kept.entries held.rewrites.items (all_undo held.undo))) (reverted : IsReverted kept kept' held) where

@@ -22,7 +22,7 @@ pub home_is : (slots : Slots) (id at : ℕ) → home_of slots id ≡ Some at →
 home_is slots id at is = ap (λ found. unwrap_or found 0) is
 
 -- there it stands
-home_at : (slots : Slots) (id at : ℕ) → home_of slots id ≡ Some at → slot slots at ≡ Some id
+pub home_at : (slots : Slots) (id at : ℕ) → home_of slots id ≡ Some at → slot slots at ≡ Some id
 home_at slots id at is = go (slot slots at) (first_slot_is (λ held. held == id) slots at is).passing
   where
     go : (found : Option ℕ) → passes (λ held. held == id) found ≡ true → found ≡ Some id

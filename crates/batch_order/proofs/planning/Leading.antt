@@ -1,11 +1,10 @@
 -- What a plan of a batch leads to: its writes are the segment of the batch, the entries behind them those of the new set, and
 -- the tables serve its ranges.
-use Rattle.std.proofs.Common.{◌≡◌, ℕ, ◌+◌, ◌*◌, ◌^◌, ◌≤◌, List, [], ◌∷◌, ◌++◌, Contains, length, map, Option, Some, None, IsTrue, false, refl, sym, ap, ap₂, subst, ◌∙◌, arith, eqb-true}
+use Rattle.std.proofs.Common.{◌≡◌, ℕ, ◌^◌, ◌≤◌, List, [], ◌∷◌, ◌++◌, Contains, length, map, Option, Some, None, IsTrue, false, refl, sym, ap, ap₂, subst, ◌∙◌, arith, eqb-true}
 use Rattle.std.specs.Prelude.{nat_eq}
 use Rattle.std.specs.List.{AllByRecursion, AllZip, IsDistinct}
-use Rattle.std.proofs.lemmas.List.{length-append, length-map}
+use Rattle.std.proofs.lemmas.List.{length-map}
 use Rattle.std.proofs.lemmas.Bool.{false_from_ne_true}
-use Rattle.slot_order.specs.Order.{most_slots}
 use Rattle.slot_order.proofs.Lists.{all_append, contains_head, contains_tail}
 use Rattle.slot_pool.specs.Arrangement.{Slots}
 use Rattle.rule_model.specs.declared.Rule.{Rule}
@@ -17,7 +16,6 @@ use Rattle.rule_store.specs.Store.{StoredRules}
 use Rattle.rule_model.specs.Entry.{RankedPiece}
 use Rattle.placement.specs.declared.LivePiece.{LivePiece}
 use Rattle.placement.specs.Live.{AreApart, is_live}
-use Rattle.placement.specs.Insertion.{free_slots}
 use Rattle.tcam_device.specs.declared.Write.{Write}
 use Rattle.tcam_device.specs.State.{State, IsState, state_after, on_device}
 use Rattle.tcam_device.proofs.Spans.{state_after-append}
@@ -30,7 +28,6 @@ use Rattle.commit_writes.specs.Planned.{Planned, AreEntriesOf, contents, with_sl
 use Rattle.commit_writes.specs.PlannedBatch.{AreNumbersOf, IsIdOf, IsPlannedSegment, IsRewriteOf, batch_writes, erased_live, erased_slots, rewritten_entries}
 use Rattle.commit_writes.proofs.BatchPieces.{erased_once, erased_was, rewritten_once}
 use Rattle.commit_writes.proofs.BatchRules.{IsSoundChange}
-use Rattle.commit_writes.proofs.BatchSegment.{batch_few}
 use Rattle.commit_writes.proofs.BatchState.{batch_entries, batch_state}
 use Rattle.commit_writes.proofs.KeptBits.{pieces_left}
 use Rattle.commit_writes.proofs.NoBits.{bit_writes-none}
@@ -250,18 +247,6 @@ module _ (placement : Placement) (translation : Option Translation) (rules : Sto
       (batch_segment mode bits rules.rules batch before old.live slots new.entries plan.planned rewrites erased counts device_slots start.is_state start.are start.few plan.commit
       (subst (λ (w : List Write). AreNumbersOf w plan.planned counts) plan.writes_are plan.numbers))
 
-  -- its writes are few: each id is inserted, rewritten or erased once, and each insertion's writes are few
+  -- its writes are few
   pub few_planned : length writes ≤ 2 ^ 39
-  few_planned =
-      let apart = plan.taken.managed.carried.settled.apart in
-      let all : length writes ≡ length words + length made = ap length plan.writes_are ∙ length-append words made in
-      let first : length words ≤ 2 * 2 ^ 16 = plan.words_few in
-      let each : length made ≤ most_slots * (1 + most_slots) * length plan.planned + length rewrites + length erased =
-      batch_few mode during behind rules.rules batch old.live slots new.entries plan.planned rewrites erased plan.commit in
-      let number : length ones ≡ length plan.planned = length-map plan.planned (λ (insertion : Planned). insertion.one) in
-      let live : length new.live ≡ length old.live + length ones = ap length plan.live_is ∙ length-append old.live ones in
-      let count : free_slots middle + length new.live ≡ new.slots = plan.settled.count in
-      let most : new.slots ≤ most_slots = plan.settled.few in
-      let results : length rewrites ≤ length old.live = few_rewrites mode during rules.rules batch old.slots old.live rewrites erased apart plan.taken.change plan.parts in
-      let gone : length erased ≤ length old.live = ids_few old.slots old.live (erased_pieces mode during rules.rules batch) erased apart (erased_once mode during rules.rules batch plan.taken.change) plan.parts.erased_are in
-      omega arith
+  few_planned = plan.few

@@ -43,7 +43,7 @@ use Rattle.batch_order.specs.declared.planned_writes.PlannedWrites.{PlannedWrite
 use Rattle.batch_order.specs.declared.planned_writes.PlannedWrite.TheVariants.{Tabled}
 use Rattle.batch_order.specs.declared.translation.Translation.{Translation}
 use Rattle.batch_order.specs.ByParts.{insertion_parts, longest_planned_parts, moves_put}
-use Rattle.batch_order.specs.Entries.{Entries, KeepEntries, HasId, HaveIds}
+use Rattle.batch_order.specs.Entries.{AreTold, Entries, KeepEntries, HasId, HaveIds}
 use Rattle.batch_order.specs.Planning.{IsSettled, IsPlannable, IsWithin, ArePlannedSince, as_write, as_writes, planned_moves, all_writes}
 use Rattle.batch_order.specs.Kept.{IsManaged, bits_of, mode_of, settled_state, tables_of}
 use Rattle.batch_order.specs.Placing.{aims_of}
@@ -143,11 +143,12 @@ rewrites_live live pieces rewrites are = all_members (λ (rewrite : Rewrite). Is
 
 -- words are within the slots in use in a plan of them
 pub plan_words : (kept : Entries) (slots : Slots) (writes : PlannedWrites) (words : List Write) → all_writes writes ≡ map Tabled words → writes.changes.items ≡ [] → IsSettled kept slots
-    → AllByRecursion (IsInUse kept.slots) words → IsPlannable kept slots writes
-plan_words kept slots writes words are no_changes settled in_use = record {
+    → AllByRecursion (IsInUse kept.slots) words → AreTold kept slots → IsPlannable kept slots writes
+plan_words kept slots writes words are no_changes settled in_use told = record {
   settled = settled;
   within = subst (AllByRecursion (IsWithin kept.slots)) (sym are) (words_within kept.slots words in_use);
   no_changes = no_changes;
+  told = told;
 }
 
 -- a settled manager is arranged as plans need it
@@ -180,7 +181,7 @@ pub record IsPlanOf (placement : Placement) (translation : Option Translation) (
   pub live_is : new.live ≡ live_after old.live planned
   pub middle_is : middle ≡ slots_after slots planned
   pub writes_are : writes ≡ words_by translation rules old slots batch ++ batch_writes new.entries slots planned rewrites erased
-  pub words_few : length (words_by translation rules old slots batch) ≤ 2 * 2 ^ 16
+  pub few : length writes ≤ 2 ^ 39
   pub numbers : AreNumbersOf writes planned counts
 
 -- what the words of a plan are
@@ -201,6 +202,7 @@ pub record AreRestPlanned (middle : Slots) (rewrites : List Rewrite) (erased : L
   pub words : counts.words ≡ plan.words
   pub most : counts.most ≡ plan.most
   pub span : counts.span ≡ plan.span
+  pub few : length writes ≤ 2 ^ 39
 
 -- A plan of a batch, and the parts of its longest insertion.
 pub record IsCountedPlan (placement : Placement) (translation : Option Translation) (rules : StoredRules) (old new : Entries) (slots middle : Slots) (batch : List Command) (rewrites : List Rewrite) (erased : List ℕ) (writes : List Write) (counts : Done) (most_parts : ℕ) : Type 0 where
@@ -244,7 +246,7 @@ plan_made placement translation rules old new slots middle batch rewrites erased
     live_is = since.live_is;
     middle_is = since.slots_are;
     writes_are = are;
-    words_few = words.few;
+    few = subst (λ (n : ℕ). n ≤ 2 ^ 39) (sym (length-map planned (as_write new.entries rewrites))) rest.few;
     numbers = record {
       writes_are = rest.number ∙ sym (length-map planned (as_write new.entries rewrites));
       words = rest.words ∙ (since.words ∙ (words.number ∙ sym tables));

@@ -49,7 +49,7 @@ use Rattle.batch_order.specs.declared.planned_writes.PlannedWrite.{PlannedWrite}
 use Rattle.batch_order.specs.declared.planned_writes.PlannedWrite.TheVariants.{Tabled}
 use Rattle.batch_order.specs.declared.restarting.resuming.Rest.{Rest}
 use Rattle.batch_order.specs.declared.translation.Translation.{Translation}
-use Rattle.batch_order.specs.Entries.{AddsIds, Entries}
+use Rattle.batch_order.specs.Entries.{AddsIds, AreTold, Entries}
 use Rattle.batch_order.specs.Kept.{bits_of, changed_by, mode_of, needed_by, tables_of}
 use Rattle.batch_order.specs.Placing.{aims_from, aims_left, aims_of}
 use Rattle.batch_order.specs.Planning.{AreAllPlanned, IsPlannable, IsSettled, IsWithin, as_write, as_writes, all_writes}
@@ -222,14 +222,15 @@ module _ (mode : Mode) (bits : FieldBits) (rules : List Rule) (batch : List Comm
       (still_live old.live adds.made erased (ids_live old.live (drop gone shown.erased.items) erased are))
 
   -- words and the twin's erase are within the slots in use
-  pub first_plannable : (plan : Plan) → AreFirstPlanned (fresh_writes mode bits rules batch state) shown.stage.twin plan → IsPlannable old slots plan.writes
-  first_plannable plan first = record {
+  pub first_plannable : (plan : Plan) → AreFirstPlanned (fresh_writes mode bits rules batch state) shown.stage.twin plan → AreTold old slots → IsPlannable old slots plan.writes
+  first_plannable plan first are_told = record {
     settled = read.settled;
     within = subst (AllByRecursion (IsWithin old.slots)) (sym first.writes)
         (all_append (IsWithin old.slots) (map Tabled words) (planned_twin shown.stage.twin)
         (words_within old.slots words (tables_in_use old.slots words (bit_writes-tables state (new_bits bits during))))
         (twin_within old.slots shown.stage.twin (subst (λ (size : ℕ). IfSome shown.stage.twin (λ at. at < size)) read.settled.size read.inside)));
     no_changes = first.no_changes;
+    told = are_told;
   }
 
   -- the slots in use, on a device with the others
@@ -350,6 +351,7 @@ module _ (mode : Mode) (bits : FieldBits) (rules : List Rule) (batch : List Comm
       changed = changed;
       gone = gone_live;
       once = erased_apart erased erased_are;
+      few_writes = all.few;
       few_planned = planned_few;
       few_rewritten = rewrites_few rewrites rewrites_are;
       few_erased = erases_few erased erased_are;

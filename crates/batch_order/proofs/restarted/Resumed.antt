@@ -1,6 +1,7 @@
 -- What callers see of a manager that goes on with a commit, and the room that it has for it.
 use Rattle.std.proofs.Common.{◌≡◌, ℕ, ◌+◌, ◌*◌, ◌^◌, ◌≤◌, true, false, Option, None, Some, List, [], length, append_assoc, refl, sym, ◌∙◌, ap, ap₂, subst, arith}
 use Rattle.std.specs.List.{AllByRecursion}
+use Rattle.std.proofs.lemmas.List.{length-map}
 use Rattle.slot_pool.specs.Arrangement.{Slots}
 use Rattle.rule_model.specs.declared.IpVersion.{IpVersion}
 use Rattle.rule_model.specs.declared.Rule.{Rule}
@@ -16,11 +17,10 @@ use Rattle.tcam_device.specs.State.{State, IsInUse, on_device}
 use Rattle.commit_writes.specs.Proposal.{proposal}
 use Rattle.commit_writes.specs.declared.Done.{Done}
 use Rattle.commit_writes.specs.Actions.{with_drain}
-use Rattle.commit_writes.specs.Bits.{FieldBits, bits_left, bits_with, new_bits}
+use Rattle.commit_writes.specs.Bits.{FieldBits, bits_left, bits_with}
 use Rattle.commit_writes.specs.Planned.{Planned}
 use Rattle.commit_writes.specs.PlannedBatch.{AreNumbersOf, batch_writes}
 use Rattle.commit_writes.specs.Routes.{IsRoute, prefix_lengths}
-use Rattle.commit_writes.proofs.TableWords.{bit_writes-few}
 use Rattle.commit_writes.specs.Changes.{during_of}
 use Rattle.commit_writes.specs.Shape.{fresh_writes, insertions_behind}
 use Rattle.commit_writes.specs.Commit.{AreCounts}
@@ -48,10 +48,10 @@ use Rattle.batch_order.specs.Placing.{IsRestPlacedBy}
 use Rattle.batch_order.specs.Restart.{Resumes, bits_in, has_drained, in_use}
 use Rattle.batch_order.specs.Standing.{managed_by}
 use Rattle.batch_order.specs.Stopped.{counts_of}
-use Rattle.batch_order.specs.Planning.{all_writes}
+use Rattle.batch_order.specs.Planning.{as_write, all_writes}
 use Rattle.batch_order.proofs.under_way.Carried.{held_size}
 use Rattle.batch_order.proofs.under_way.Drains.{length_drain, writes_left_are}
-use Rattle.batch_order.proofs.restarted.GoesOn.{IsResumed, goes_on, held_by, led, restart_on, start_is, writes_are}
+use Rattle.batch_order.proofs.restarted.GoesOn.{IsResumed, goes_on, held_by, restart_on, start_is, writes_are}
 use Rattle.batch_order.proofs.planning.Meant.{used_within}
 
 -- by covers no range has a bit, and the tables are blank
@@ -170,12 +170,8 @@ module _ (placement : Placement) (translation : Option Translation) (rules : Sto
 
   few_writes : length writes ≤ 2 ^ 39
   few_writes =
-      let few = (led placement translation rules batch state shown old new slots slots' found rest some on).few in
-      let words = bit_writes-few narrow (new_bits bits during) (restart_on placement translation rules batch state shown old new slots slots' found rest some on (length state.slots)).is_state in
-      let inserted = on.planned.few_planned in
-      let rewritten = on.planned.few_rewritten in
-      let erased = on.planned.few_erased in
-      omega arith
+      subst (λ (made : List Write). length made ≤ 2 ^ 39) on.planned.plan.writes_are
+      (subst (λ (n : ℕ). n ≤ 2 ^ 39) (sym (length-map (all_writes rest.plan.writes) (as_write new.entries rest.left.rewrites.items))) on.planned.few_writes)
 
   pub resumes : (parts : Parts) → parts.rules.rules ≡ rules.rules → bits_in parts ≡ bits_of translation
       → Resumes (length slots) (mode_of translation) placement parts batch (length state.slots) state (managed_by placement translation rules new found (Some (held_by translation rules batch state slots' rest some)))

@@ -23,6 +23,7 @@ use Rattle.commit_writes.specs.Shape.{set_pieces}
 use Rattle.commit_writes.specs.Planned.{AreEntriesOf}
 use Rattle.commit_writes.proofs.ServedTables.{bits_blank}
 use Rattle.batch_order.specs.declared.translation.Translation.{Translation}
+use Rattle.placement.specs.Live.{Homes}
 use Rattle.batch_order.specs.Entries.{Entries}
 use Rattle.batch_order.specs.Planning.{IsSettled}
 use Rattle.batch_order.specs.Kept.{IsManaged, IsArranged, bits_of, mode_of, tables_of}
@@ -31,8 +32,8 @@ all_free : (count : ℕ) → free_slots (replicate count None) ≡ count
 all_free count = let each = sum_by-replicate {X = Option ℕ} (λ held. cond (is_none held) 1 0) count None in omega arith
 
 -- nothing stands in empty slots
-none_settled : (slots : ℕ) (entries : List _) → slots ≤ most_slots → IsSettled (record { slots = slots; live = []; entries = entries }) (replicate slots None)
-none_settled slots entries few = record {
+none_settled : (slots : ℕ) (entries : List _) (told : Option Homes) → slots ≤ most_slots → IsSettled (record { slots = slots; live = []; entries = entries; told = told }) (replicate slots None)
+none_settled slots entries told few = record {
   size = length-replicate slots None;
   few = few;
   apart = apart_none slots;
@@ -54,7 +55,7 @@ none_entries mode bits entries = record {
 
 -- so a new manager can take its first batch
 pub begun_managed : (slots : ℕ) (mode : Mode) (translation : Option Translation) (rules : StoredRules) (kept : Entries) (arrangement : Slots) → slots ≤ most_slots → mode_of translation ≡ mode
-    → bits_of translation ≡ no_bits → tables_of translation ≡ blank 0 → rules.rules ≡ [] → kept ≡ record { slots = slots; live = []; entries = replicate slots None } → arrangement ≡ replicate slots None
+    → bits_of translation ≡ no_bits → tables_of translation ≡ blank 0 → rules.rules ≡ [] → kept ≡ record { slots = slots; live = []; entries = replicate slots None; told = kept.told } → arrangement ≡ replicate slots None
     → IsManaged translation rules kept arrangement None
 begun_managed slots mode translation rules kept arrangement few coded bits tables none entries free = record {
   right = subst (AllByRecursion HasConditions) (sym none) tt;
@@ -65,6 +66,6 @@ begun_managed slots mode translation rules kept arrangement few coded bits table
       (subst (λ (set : List Rule). AreBitsOf mode no_bits set (tables_of translation)) (sym none) (subst (AreBitsOf mode no_bits []) (sym tables) (bits_blank mode 0))));
   carried = subst (λ (set : List Rule). IsArranged (mode_of translation) (bits_of translation) set kept arrangement) (sym none)
       (subst (λ (k : Entries). IsArranged (mode_of translation) (bits_of translation) [] k arrangement) (sym entries)
-      (subst (λ (at : Slots). IsArranged (mode_of translation) (bits_of translation) [] (record { slots = slots; live = []; entries = replicate slots None }) at) (sym free)
-      record { settled = none_settled slots (replicate slots None) few; entries_are = none_entries (mode_of translation) (bits_of translation) (replicate slots None) }));
+      (subst (λ (at : Slots). IsArranged (mode_of translation) (bits_of translation) [] (record { slots = slots; live = []; entries = replicate slots None; told = kept.told }) at) (sym free)
+      record { settled = none_settled slots (replicate slots None) kept.told few; entries_are = none_entries (mode_of translation) (bits_of translation) (replicate slots None) }));
 }

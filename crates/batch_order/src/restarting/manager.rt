@@ -59,7 +59,7 @@ impl Manager {
     }
 
     /// A manager over a device that was stopped in the middle of a batch's commit, by the parts of the old set's
-    /// manager, with the slots in use and the encoding that it had: 1 to 4,096 slots, which the device has. By covers
+    /// manager, with the slots in use and the encoding that it had: 1 to `MOST_SLOTS` slots, which the device has. By covers
     /// no word of the device's tables may have a bit, as every manager by covers leaves them. No entry tests such a bit,
     /// and a stage may be found whatever the tables hold; but the manager keeps none, so it takes them to be blank, and
     /// promises that the device holds what it takes it to hold (`IsOn`).

@@ -7,7 +7,7 @@ ghost use Rattle.rule_model.specs.Entry.{IsEncodable};
 ghost use Rattle.placement.specs.Live.{is_live};
 ghost use Rattle.commit_writes.specs.PlannedBatch.{IsIdOf, IsRewriteOf};
 ghost use Rattle.batch_order.specs.Arranged.{arranged_at};
-ghost use Rattle.batch_order.specs.Entries.{AddsIds, HaveIds};
+ghost use Rattle.batch_order.specs.Entries.{AddsIds, AreTold, HaveIds};
 ghost use Rattle.batch_order.specs.Placing.{aims_from};
 ghost use Rattle.batch_order.specs.Planning.{AreAllPlanned, ArePlannedSince, IsPlannable, all_writes};
 ghost use Rattle.batch_order.specs.Standing.{planned_twin};
@@ -105,6 +105,7 @@ pub(crate) fn plan_rest<D: Writable>(
         (aims_from placement mode (length arrangement.old) rules.now.rules (length live.old.live + length parts.now.inserted.items) made parts.now.inserted.items)
         parts.now.rewrites.items parts.now.erased.items) }
     ensures adds { IfOk result (λ ids. AddsIds live.old live.new ids.items) }
+    ensures told { OnOk result (AreTold live.new arrangement.new) }
     ensures enough { OnOk result (2 * length (all_writes plan.new.writes) + 1 ≤ (D.view device.new).spare) }
     ensures slots { live.new.slots ≡ live.old.slots }
     ensures least { (D.view device.old).spare ≤ (D.view device.new).spare }

@@ -1,6 +1,6 @@
 //! What is left of the commit that a device shows, planned anew.
 
-ghost use Rattle.std.specs.Prelude.{◌≡◌, ◌≤◌, ◌+◌, ◌*◌, ◌&&◌, [], IfOk, OnErr, Some, length, nat_lt, not};
+ghost use Rattle.std.specs.Prelude.{◌≡◌, ◌≤◌, ◌+◌, ◌*◌, ◌&&◌, [], IfOk, OnOk, OnErr, Some, length, nat_lt, not};
 ghost use Rattle.std.specs.List.{AllByRecursion};
 ghost use Rattle.rule_store.specs.declared.Mode.TheVariants as modes;
 ghost use Rattle.rule_store.specs.Verdict.{Accepted, verdict};
@@ -14,6 +14,7 @@ ghost use Rattle.readback.specs.Stage.{Finds};
 ghost use Rattle.readback.specs.Tasks.{commit_pieces, known_pieces};
 ghost use Rattle.batch_order.specs.Arranged.{arranged_at};
 ghost use Rattle.batch_order.specs.CarriedOut.{HasRoomBothWays, HasRoomLeft};
+ghost use Rattle.batch_order.specs.Entries.{AreTold};
 ghost use Rattle.batch_order.specs.Kept.{IsManaged, bits_of, mode_of, tables_of};
 ghost use Rattle.batch_order.specs.Noting.{all_undo};
 ghost use Rattle.batch_order.specs.Planning.{all_writes};
@@ -79,6 +80,7 @@ pub(crate) fn resume<D: ReadBack>(
     ensures resumes { IfOk result (λ made. Resumes slots mode placement parts.old batch.now (D.view device.old).slots (device_state (D.view device.old))
         (managed_by placement made.translation parts.new.rules made.live made.arrangement (Some made.held))) }
     ensures stands { IfOk result (λ made. StandsAt made.arrangement made.planned (Some made.held)) }
+    ensures told { IfOk result (λ made. AreTold made.live made.planned) }
     ensures same { OnErr result (parts.new ≡ parts.old) }
     ensures reserved { IfOk result (λ made. HasRoomLeft (managed_by placement made.translation parts.new.rules made.live made.arrangement (Some made.held)).held (D.view device.new).spare) }
     ensures both_ways { IfOk result (λ made. HasRoomBothWays (managed_by placement made.translation parts.new.rules made.live made.arrangement (Some made.held)).held (D.view device.new).spare) }
@@ -199,8 +201,10 @@ fn plan_all<D: ReadBack>(
     requires mode { mode_of translation.now ≡ mode }
     requires tables { tables_of translation.now ≡ record (device_state (D.view device.old)) { slots = [] } }
     requires read { IsReadAgain mode (bits_of translation.now) rules.now.rules batch.now (device_state (D.view device.old)) shown.now standing.old.live standing.old.arrangement }
+    requires told { AreTold standing.old.live standing.old.arrangement }
     ensures planned { IfOk result (IsPlannedOn placement (D.view device.old).slots (proposal mode (bits_of translation.now) rules.now.rules batch.now)
         (device_state (D.view device.old)) shown.now (arranged_at standing.old.live standing.old.arrangement) (arranged_at standing.new.live standing.new.arrangement)) }
+    ensures told { OnOk result (AreTold standing.new.live standing.new.arrangement) }
     ensures enough { IfOk result (λ rest. 2 * length (all_writes rest.plan.writes) + 1 ≤ (D.view device.new).spare) }
     ensures least { (D.view device.old).spare ≤ (D.view device.new).spare }
     ensures others { IsSameButSpare (D.view device.old) (D.view device.new) }
@@ -221,7 +225,7 @@ fn plan_all<D: ReadBack>(
         &mut plan,
         device,
     )?;
-    erase_all(&mut standing.arrangement, &left.erased);
+    erase_all(&mut standing.live, &mut standing.arrangement, &left.erased);
     Ok(Rest {
         plan,
         bits,

@@ -2,6 +2,7 @@
 
 ghost use Rattle.std.specs.Prelude.{◌≡◌, ◌<◌, ◌≤◌, ◌∷◌, [], true, IfOk, IfSome, Some, length, slice_set};
 ghost use Rattle.slot_order.specs.Order as order;
+ghost use Rattle.batch_order.specs.Entries.{AreTold};
 ghost use Rattle.batch_order.specs.Standing.{AreEncodable, AreStanding, HasPieceOf, IsWithTwin, without_twin};
 
 use crate::entries::LiveEntries;
@@ -30,6 +31,7 @@ pub(crate) fn standing_in(
     requires encodable { AreEncodable places.now }
     ensures standing { IfOk result (λ standing. AreStanding slots (without_twin twin places.now) standing.live standing.arrangement) }
     ensures slots { IfOk result (λ standing. standing.live.slots ≡ slots) }
+    ensures told { IfOk result (λ standing. AreTold standing.live standing.arrangement) }
 {
     let mut live = LiveEntries::new(alloc, slots)?;
     let mut arrangement = Arrangement::new(alloc, slots)?;
@@ -37,6 +39,7 @@ pub(crate) fn standing_in(
         if let Some(ranked) = piece_at(places, twin, slot) {
             let id = live.add(&ranked.piece, ranked.rank, ranked.result)?;
             arrangement.put(slot, id);
+            live.tell(&arrangement, id);
         }
     }
     Ok(Standing { live, arrangement })

@@ -9,14 +9,6 @@ use Rattle.move_planner.proofs.Noted.{noted_then}
 use Rattle.move_planner.proofs.Alone.{placement_alone}
 use Rattle.move_planner.proofs.plan_insert.Goals as goal
 
-pub overflow_cast-writes : goal.overflow_cast-writes
-overflow_cast-writes c =
-    let ready = ready_from c.args.index.now c.args.id c.args.slots.now c.requires.few c.requires.free c.requires.live c.find_gap-gap.ensures.apart c.requires.standing c.requires.order in
-    let w = wholly c.args.index.now (record { aim = c.args.aim; coming = c.args.coming.now }) c.args.id c.args.slots.now c.clear_gap.new.slots c.place.new.slots c.args.plan.now c.clear_gap.new.plan c.place.new.plan ready c.in_ok-gap.ensures.clear c.in_ok-place.ensures.placed in
-    let n = counted c.args.index.now c.args.id c.args.slots.now c.place.new.slots c.args.plan.now c.place.new.plan ready w in
-    let count = n.count in let small = n.small in
-    omega arith
-
 pub returns-clause-placement : goal.returns-clause-placement
 returns-clause-placement c =
     let ready = ready_from c.args.index.now c.args.id c.args.slots.now c.requires.few c.requires.free c.requires.live c.find_gap-gap.ensures.apart c.requires.standing c.requires.order in

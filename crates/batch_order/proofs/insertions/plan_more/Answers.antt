@@ -103,6 +103,19 @@ kept_then old mid new end ids adds first same second back third =
     kept_back old new end (λ id now. second id (subst (λ (l : List LivePiece). IsTrue (is_live l id)) (sym adds.live) (live_more old.live adds.made id now)) ∙ first id now) third
     (back ∙ (ap (λ (l : List LivePiece). take (length l - length ids) l) same ∙ adds_first old mid ids adds))
 
+-- on either outcome it is told where the ids stand
+pub returns-in_err-ranks-clause-told : goal.returns-in_err-ranks-clause-told
+returns-in_err-ranks-clause-told c = c.requires.plannable.told
+
+pub returns-in_err-ids-clause-told : goal.returns-in_err-ids-clause-told
+returns-in_err-ids-clause-told c = c.requires.plannable.told
+
+pub returns-in-Err-clause-told : goal.returns-in-Err-clause-told
+returns-in-Err-clause-told c = c.forget_all.ensures.told c.plan_piece.new.arrangement c.plan_piece.ensures.told
+
+pub returns-clause-told : goal.returns-clause-told
+returns-clause-told c = c.loop-ranked.invariant.0.told
+
 pub returns-in-Err-clause-kept : goal.returns-in-Err-clause-kept
 returns-in-Err-clause-kept c =
     let was = c.loop-ranked.invariant in

@@ -54,5 +54,8 @@ returns-clause-others c = record { words = refl; moves = refl; undo_words = refl
 pub returns-in_err-plan_rewrites-clause-others : goal.returns-in_err-plan_rewrites-clause-others
 returns-in_err-plan_rewrites-clause-others c = record { words = refl; moves = refl; undo_words = refl; undo_moves = refl }
 
+pub returns-in_err-keep_few-clause-others : goal.returns-in_err-keep_few-clause-others
+returns-in_err-keep_few-clause-others c = record { words = refl; moves = refl; undo_words = refl; undo_moves = refl }
+
 pub returns-in_err-plan_erases-clause-others : goal.returns-in_err-plan_erases-clause-others
 returns-in_err-plan_erases-clause-others c = record { words = refl; moves = refl; undo_words = refl; undo_moves = refl }

@@ -28,6 +28,7 @@ returns-clause-changed c =
       most = did.most;
       span = did.span;
       most_parts = did.most_parts;
+      few = did.few;
       at_home = did.at_home;
       noted = did.noted;
       same_words = c.plan_changes.ensures.others.words;

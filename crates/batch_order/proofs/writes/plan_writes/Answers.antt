@@ -1,4 +1,4 @@
-use Rattle.std.proofs.Common.{◌≡◌, ◌++◌, ℕ, IsTrue, List, Contains, length, map, Some, sym, ap, subst, ◌∙◌}
+use Rattle.std.proofs.Common.{◌≡◌, [], ◌++◌, ℕ, IsTrue, List, Contains, length, map, Option, Some, sym, ap, ap₂, subst, ◌∙◌}
 use Rattle.std.specs.List.{AllByRecursion}
 use Rattle.slot_order.specs.Order.{slot}
 use Rattle.slot_order.proofs.Lists.{AllByRecursion-member, all_append}
@@ -8,10 +8,12 @@ use Rattle.placement.specs.declared.Move.{Move}
 use Rattle.placement.specs.Live.{is_live}
 use Rattle.rule_store.specs.Verdict.{entries_of}
 use Rattle.rule_store.specs.declared.Mode.{Mode}
-use Rattle.move_planner.specs.Noted.{IsInside, backs_of}
+use Rattle.move_planner.specs.Noted.{AreNoted, IsInside, backs_of, taken_back}
+use Rattle.move_planner.proofs.Noted.{back_again}
 use Rattle.commit_writes.specs.declared.Rewrite.{Rewrite}
 use Rattle.commit_writes.specs.PlannedBatch.{home_slot}
-use Rattle.batch_order.specs.Entries.{AddsIds, Entries}
+use Rattle.rule_model.specs.declared.words.Entry.{Entry}
+use Rattle.batch_order.specs.Entries.{AddsIds, Entries, KeepEntries}
 use Rattle.batch_order.specs.Noting.{changed_ids}
 use Rattle.batch_order.specs.Planning.{IsSettled, IsWithin, all_writes}
 use Rattle.batch_order.proofs.arranged.Cleared.{all_stand}
@@ -76,6 +78,7 @@ returns-in-Ok-plan_behind-clause-planned c =
       most = rest.most;
       span = rest.span;
       most_parts = rest.most_parts;
+      few = rest.few;
     }
 
 pub returns-in-Ok-plan_behind-clause-undo : goal.returns-in-Ok-plan_behind-clause-undo
@@ -91,27 +94,39 @@ returns-in-Ok-plan_behind-clause-takes_back c =
 
 pub returns-in-Err-plan_behind-clause-kept : goal.returns-in-Err-plan_behind-clause-kept
 returns-in-Err-plan_behind-clause-kept c =
-    kept_back c.args.live.now c.plan_additions.new.live c.forget_all.new.live c.plan_additions.ensures.kept c.forget_all.ensures.kept
-    (c.forget_all.ensures.live ∙ adds_first c.args.live.now c.plan_additions.new.live c.in-Ok.ids.items c.in-Ok.ensures.adds)
+    subst (λ (entries : List (Option Entry)). KeepEntries c.args.live.now.live c.args.live.now.entries entries) (sym c.put_back.ensures.entries)
+    (kept_back c.args.live.now c.plan_additions.new.live c.forget_all.new.live c.plan_additions.ensures.kept c.forget_all.ensures.kept
+    (c.forget_all.ensures.live ∙ adds_first c.args.live.now c.plan_additions.new.live c.in-Ok.ids.items c.in-Ok.ensures.adds))
+
+pub returns-in-Err-clause-kept : goal.returns-in-Err-clause-kept
+returns-in-Err-clause-kept c =
+    subst (λ (entries : List (Option Entry)). KeepEntries c.args.live.now.live c.args.live.now.entries entries) (sym c.put_back-in-Err.ensures.entries) c.plan_additions.ensures.kept
 
 -- what is noted of the moves takes the arrangement back
+moves_back : (slots slots' : Slots) (plan plan' undo undo' : List Move) (noted : AreNoted slots slots' plan plan' undo undo') → undo ≡ [] → taken_back slots' undo' ≡ slots
+moves_back slots slots' plan plan' undo undo' noted none =
+    ap₂ taken_back noted.after (noted.noted ∙ ap (λ (some : List Move). some ++ backs_of slots noted.moves) none) ∙ back_again slots noted.moves
+
 pub returns-in-Err-plan_behind-clause-back : goal.returns-in-Err-plan_behind-clause-back
 returns-in-Err-plan_behind-clause-back c =
-    let noted = c.plan_additions.ensures.noted.moves in
-    c.take_back.ensures.back c.args.arrangement.now noted.moves noted.after
-    (c.plan_behind.ensures.moves ∙ (noted.noted ∙ ap (λ (some : List Move). some ++ backs_of c.args.arrangement.now noted.moves) c.requires.begins.unnoted.no_moves))
+    c.put_back.ensures.exact ∙ (ap (taken_back c.plan_additions.new.arrangement) c.plan_behind.ensures.moves
+    ∙ moves_back c.args.arrangement.now c.plan_additions.new.arrangement _ _ _ _ c.plan_additions.ensures.noted.moves c.requires.begins.unnoted.no_moves)
 
 pub returns-in-Err-clause-back : goal.returns-in-Err-clause-back
 returns-in-Err-clause-back c =
-    let noted = c.plan_additions.ensures.noted.moves in
-    c.take_back-in-Err.ensures.back c.args.arrangement.now noted.moves noted.after
-    (noted.noted ∙ ap (λ (some : List Move). some ++ backs_of c.args.arrangement.now noted.moves) c.requires.begins.unnoted.no_moves)
+    c.put_back-in-Err.ensures.exact ∙ moves_back c.args.arrangement.now c.plan_additions.new.arrangement _ _ _ _ c.plan_additions.ensures.noted.moves c.requires.begins.unnoted.no_moves
 
-pub take_back-requires : goal.take_back-requires
-take_back-requires c =
+pub returns-in-Err-plan_behind-clause-told : goal.returns-in-Err-plan_behind-clause-told
+returns-in-Err-plan_behind-clause-told c = c.put_back.ensures.told (c.forget_all.ensures.told c.plan_additions.new.arrangement c.plan_additions.ensures.told)
+
+pub returns-in-Err-clause-told : goal.returns-in-Err-clause-told
+returns-in-Err-clause-told c = c.put_back-in-Err.ensures.told c.plan_additions.ensures.told
+
+pub put_back-requires : goal.put_back-requires
+put_back-requires c =
     let noted = c.plan_additions.ensures.noted.moves in
     subst (AllByRecursion (IsInside (length c.plan_additions.new.arrangement))) (sym c.plan_behind.ensures.moves)
     (noted_inside _ _ _ _ _ _ noted c.requires.begins.unnoted.no_moves)
 
-pub take_back-requires-in-Err : goal.take_back-requires-in-Err
-take_back-requires-in-Err c = noted_inside _ _ _ _ _ _ c.plan_additions.ensures.noted.moves c.requires.begins.unnoted.no_moves
+pub put_back-requires-in-Err : goal.put_back-requires-in-Err
+put_back-requires-in-Err c = noted_inside _ _ _ _ _ _ c.plan_additions.ensures.noted.moves c.requires.begins.unnoted.no_moves

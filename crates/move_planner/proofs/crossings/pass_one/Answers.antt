@@ -23,7 +23,7 @@ none above behind before slots sides cut (Some chain) not w = absurd (not chain 
 
 pub turn-requires : goal.turn-requires
 turn-requires c =
-    let u = c.requires in
+    let u = c.requires.underway in
     passer_shifts c.args.index.now u.0 u.1 u.2 c.args.slots.now c.args.sides.now c.args.cut u.3 c.in-Some.chain
     (passes (is_above c.args.index.now.live) u.1 u.2 c.args.slots.now c.args.sides.now c.args.cut c.in_ok-chain.field-0 c.in-Some.chain c.in-Some.is (c.in_ok-chain.ensures u.0 u.1 u.2 u.3))
 

@@ -20,4 +20,4 @@ returns c =
     let size = c.slots.ensures.number in
     let free = c.free_count.ensures in
     let all : c.slots.result - c.free_count.result + 1 + length coming ≡ entries_to_be coming slots = omega arith in
-    c.rank_slot.ensures ∙ rank_same _ _ _ _ _ _ c.slots-2.ensures.number before all
+    c.rank_slot.ensures.share ∙ rank_same _ _ _ _ _ _ c.slots-2.ensures.number before all

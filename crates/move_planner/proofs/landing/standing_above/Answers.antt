@@ -6,7 +6,7 @@ use Rattle.slot_order.specs.Order.{slot}
 use Rattle.slot_moves.specs.Cuts.{holds}
 use Rattle.placement.specs.Live.{rank_in}
 use Rattle.move_planner.specs.Boundary.{one}
-use Rattle.move_planner.proofs.Landings.{one_small}
+use Rattle.move_planner.proofs.Landings.{one_small, some_taken}
 use Rattle.move_planner.proofs.landing.standing_above.Goals as goal
 
 pub loop-slot-preserved : goal.loop-slot-preserved
@@ -27,3 +27,13 @@ returns-clause-count c =
     let past = c.loop-slot-test.false in
     c.loop-slot.invariant.is
     ∙ ap (count_by (λ (held : Option ℕ). holds (λ id. nat_lt c.args.rank (rank_in c.args.index.now.live id)) held)) (take_all c.loop-slot.slot c.args.slots.now (omega arith))
+
+pub returns-clause-taken : goal.returns-clause-taken
+returns-clause-taken c =
+    let slots = c.args.slots.now in
+    let size = c.slots-slot-end.ensures.number in
+    let past = c.loop-slot-test.false in
+    let count = c.loop-slot.invariant.is
+    ∙ ap (count_by (λ (held : Option ℕ). holds (λ id. nat_lt c.args.rank (rank_in c.args.index.now.live id)) held)) (take_all c.loop-slot.slot slots (omega arith)) in
+    let all = some_taken (λ id. nat_lt c.args.rank (rank_in c.args.index.now.live id)) slots in
+    omega arith

@@ -4,5 +4,5 @@ use Rattle.overlap_index.proofs.Parts.{parts_none}
 use Rattle.overlap_index.proofs.Index.new.Goals as goal
 
 pub invariant_of-result : goal.invariant_of-result
-invariant_of-result c = rw (c.in_ok-pieces.ensures.items, c.in_ok-buckets.ensures, c.new-5.ensures)
-    (parts_none c.args.slots c.in_ok-places.places.items c.in_ok-columns.columns c.in_ok-destinations.destinations c.in_ok-edges.edges c.requires.some c.requires.most (grind (arith, common_steps)) c.in_ok-columns.ensures c.in_ok-edges.ensures.ids c.in_ok-destinations.ensures c.in_ok-edges.ensures.none)
+invariant_of-result c = rw (c.in_ok-pieces.ensures.items, c.in_ok-buckets.ensures, c.new-3.ensures)
+    (parts_none c.args.slots c.in_ok-places.places.items c.in_ok-ties.ties c.requires.some c.requires.most (grind (arith, common_steps)) c.in_ok-ties.ensures)

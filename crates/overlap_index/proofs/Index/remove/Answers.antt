@@ -5,11 +5,11 @@ use Rattle.overlap_index.specs.Changes.{live_after}
 use Rattle.placement.specs.Live.{is_live, without_id}
 use Rattle.overlap_index.proofs.Linked.{live_small}
 use Rattle.overlap_index.proofs.Came.{live_more}
-use Rattle.overlap_index.proofs.Known.{route_present}
+use Rattle.placement.specs.Live.{MayTell}
+use Rattle.overlap_index.specs.Tied.{told_of}
 use Rattle.overlap_index.proofs.InBuckets.{ends_at}
-use Rattle.overlap_index.proofs.Parts.{parts_less}
+use Rattle.overlap_index.proofs.Parts.{parts_going, parts_less}
 use Rattle.overlap_index.proofs.Placed.{Closes, reads_place, last_small}
-use Rattle.overlap_index.proofs.Rows.{columns_size}
 use Rattle.overlap_index.proofs.Index.remove.Goals as goal
 
 pub went-requires-clause-small : goal.went-requires-clause-small
@@ -70,18 +70,12 @@ swap_remove-requires c =
     let inside = at.inside in
     grind (arith, common_steps)
 
-pub remove-requires : goal.remove-requires
-remove-requires c =
+pub less-requires : goal.less-requires
+less-requires c =
     let i = c.self.inside in
     let live = subst (λ v. is_live v.live c.args.id ≡ true) (sym c.self.view_is) c.requires in
     let at = reads_place i.slots c.args.id c.index.result.now (live_after i.history.items) i.pieces.items i.places.items c.self.invariant.apart c.self.invariant.table live c.index.ensures in
-    subst (λ n. c.index.result.now < n) (sym (columns_size i.pieces.items i.columns c.self.invariant.beside)) at.inside
-
-pub drop_node-requires : goal.drop_node-requires
-drop_node-requires c =
-    let parts = c.self.invariant in
-    let live = subst (λ v. is_live v.live c.args.id ≡ true) (sym c.self.view_is) c.requires in
-    subst (λ n. c.args.id < n) (sym parts.nodes) (live_small c.self.inside.slots (live_after c.self.inside.history.items) c.args.id parts.apart live)
+    (i.slots, live_after i.history.items, i.pieces.items, parts_going i.slots c.args.id c.index.result.now (live_after i.history.items) i.pieces.items i.places.items i.buckets i.ties live at.inside c.self.invariant, c.self.invariant.tied)
 
 -- the last piece takes the place of the one that goes
 pub invariant_of-self : goal.invariant_of-self
@@ -101,16 +95,15 @@ invariant_of-self c =
       filled = λ d l. c.swap_remove.ensures.by_index.0 d (omega arith) ∙ ap (λ n. get_or i.pieces.items (n - 1) d) size;
       others = λ k d apart l. c.swap_remove.ensures.by_index.1 k d apart (omega arith);
     } in
-    rw (after, c.remove.ensures, c.went.ensures)
-    (parts_less i.slots c.args.id c.piece_of.result.now (live_after i.history.items) i.pieces.items c.swap_remove.new.self.items i.places.items i.buckets i.columns i.destinations c.leave.new.self i.edges c.drop_node.new.self c.index.result.now c.index-2.result.now c.swap_remove.result
-    (subst (λ v. Contains v.live c.piece_of.result.now) (sym c.self.view_is) c.piece_of.ensures.live) c.piece_of.ensures.id at.is (sym end) c.swap_remove.ensures.items closes c.drop_node.ensures.gone c.drop_node.ensures.ids c.leave.ensures c.self.invariant)
+    let tied = c.less.ensures.tied i.slots (live_after i.history.items) i.pieces.items c.swap_remove.result
+    (parts_going i.slots c.args.id c.index.result.now (live_after i.history.items) i.pieces.items i.places.items i.buckets i.ties live at.inside c.self.invariant) c.self.invariant.tied in
+    rw (after, c.went.ensures)
+    (parts_less i.slots c.args.id c.piece_of.result.now (live_after i.history.items) i.pieces.items c.swap_remove.new.self.items i.places.items i.buckets i.ties c.less.new.self c.index.result.now c.index-2.result.now c.swap_remove.result
+    (subst (λ v. Contains v.live c.piece_of.result.now) (sym c.self.view_is) c.piece_of.ensures.live) c.piece_of.ensures.id at.is (sym end) c.swap_remove.ensures.items closes tied c.self.invariant)
 
 pub returns-clause-live : goal.returns-clause-live
 returns-clause-live c =
     ap live_after c.and-self-inside.ensures ∙ live_more c.self.inside.history.items (Went c.args.id) ∙ ap (λ v. without_id v.live c.args.id) c.self.view_is
 
-pub leave-requires : goal.leave-requires
-leave-requires c routes is =
-    let i = c.self.inside in
-    let live = subst (λ v. is_live v.live c.args.id ≡ true) (sym c.self.view_is) c.requires in
-    route_present i.slots (live_after i.history.items) routes (c.self.invariant.known routes is) c.args.id live
+pub returns-clause-told : goal.returns-clause-told
+returns-clause-told c = subst (λ was. MayTell was c.args.id (told_of c.less.new.self)) (ap (λ v. v.told) c.self.view_is) c.less.ensures.told

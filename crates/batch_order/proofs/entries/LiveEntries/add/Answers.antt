@@ -1,10 +1,9 @@
-use Rattle.std.proofs.Common.{rules, ◌≡◌, ◌≢◌, ◌<◌, ◌+◌, ◌-◌, ◌∙◌, ℕ, true, [], ◌∷◌, ◌++◌, length, vec_len, get_or, arith, Some, None, subst, sym, ap, refl, slice_set, get_or-set_same}
+use Rattle.std.proofs.Common.{rules, ◌≡◌, ◌<◌, ◌+◌, ◌-◌, ◌∙◌, [], ◌∷◌, ◌++◌, length, vec_len, get_or, arith, Some, None, subst, sym, ap, slice_set, get_or-set_same}
 use Rattle.std.specs.Option.{option_to_list}
 use Rattle.std.proofs.lemmas.Grind.{common_steps}
 use Rattle.std.proofs.lemmas.List.{length-set}
 use Rattle.std.proofs.lemmas.List.Elements.{Contains-push}
 use Rattle.placement.specs.declared.LivePiece.{LivePiece}
-use Rattle.placement.specs.Live.{is_live}
 use Rattle.placement.proofs.Above.{is_live_from}
 use Rattle.batch_order.proofs.ids.AtIds.{size_is, kept_at, live_still, last_small}
 use Rattle.batch_order.proofs.ids.Ids.{kept_more}

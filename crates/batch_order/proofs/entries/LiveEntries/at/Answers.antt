@@ -1,4 +1,4 @@
-use Rattle.std.proofs.Common.{◌≡◌, ◌<◌, ◌∙◌, true, false, length, Some, None, get_or, sym, ap, subst, arith}
+use Rattle.std.proofs.Common.{◌≡◌, ◌<◌, ◌∙◌, true, length, Some, None, get_or, sym, ap, arith}
 use Rattle.std.proofs.lemmas.Bool.{cond-true}
 use Rattle.placement.specs.Live.{is_live}
 use Rattle.batch_order.specs.Entries.{Entries, live_entries}

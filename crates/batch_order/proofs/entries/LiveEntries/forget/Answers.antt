@@ -1,6 +1,7 @@
-use Rattle.std.proofs.Common.{rules, ◌≡◌, ◌<◌, ◌∙◌, length, None, sym, slice_set, true, arith}
+use Rattle.std.proofs.Common.{rules, ◌≡◌, ◌<◌, ◌∙◌, length, subst, sym, true, arith}
 use Rattle.placement.specs.Live.{is_live, without_id}
-use Rattle.batch_order.specs.Entries.{live_entries}
+use Rattle.batch_order.specs.Entries.{Entries, StayTold, live_entries}
+use Rattle.batch_order.proofs.Told.{told_forgot}
 use Rattle.batch_order.proofs.ids.AtIds.{size_is, without_at}
 use Rattle.batch_order.proofs.ids.Ids.{kept_less, live_small}
 use Rattle.batch_order.proofs.entries.LiveEntries.forget.Goals as goal
@@ -23,3 +24,10 @@ returns-clause-entries c =
     let size = size_is i.index.live i.entries.items in
     let places : length (live_entries i.index.live i.entries.items) ≡ i.index.slots = c.self.invariant.0.places in
     rw (← c.self.view_is, c.remove.ensures.live) (without_at i.index.live i.entries.items c.args.id (omega arith))
+
+pub returns-clause-told : goal.returns-clause-told
+returns-clause-told c =
+    let i = c.self.inside in
+    let new : Entries = record { slots = c.remove.new.self.slots; live = c.remove.new.self.live; entries = live_entries c.remove.new.self.live i.entries.items; told = c.remove.new.self.told } in
+    let old : Entries = record { slots = i.index.slots; live = i.index.live; entries = live_entries i.index.live i.entries.items; told = i.index.told } in
+    subst (λ (was : Entries). StayTold was new) c.self.view_is (told_forgot old new c.args.id c.remove.ensures.live c.remove.ensures.told)

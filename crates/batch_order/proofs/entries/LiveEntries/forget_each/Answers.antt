@@ -29,4 +29,5 @@ loop-id-preserved c =
       kept = subst (λ (live : List LivePiece). KeepEntries live before.entries c.forget.new.self.entries) (sym c.forget.ensures.live)
           (subst (λ (entries : List (Option Entry)). KeepEntries (without_id now.live id) before.entries entries) (sym c.forget.ensures.entries) kept);
       slots = c.forget.ensures.slots ∙ c.loop-id.invariant.slots;
+      told = λ slots told. c.forget.ensures.told slots (c.loop-id.invariant.told slots told);
     }

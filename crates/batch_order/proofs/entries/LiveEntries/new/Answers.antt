@@ -1,4 +1,4 @@
-use Rattle.std.proofs.Common.{◌≡◌, ◌≤◌, ◌+◌, ◌∙◌, [], length, None, replicate, refl, sym, ap, arith}
+use Rattle.std.proofs.Common.{◌≡◌, ◌∙◌, [], length, None, replicate, refl, ap, arith}
 use Rattle.placement.proofs.Live.{apart_none}
 use Rattle.batch_order.specs.Entries.{AreKept, live_entries}
 use Rattle.batch_order.proofs.ids.AtIds.{size_is, none_live, all_absent}

@@ -8,4 +8,5 @@ invariant-loop-rewrite l = record {
   live : l.self.live ≡ l.fn.self.live;
   entries : l.self.entries ≡ rewritten_entries l.fn.self.entries (take l.rewrite-index l.rewrites);
   slots : l.self.slots ≡ l.fn.self.slots;
+  told : l.self.told ≡ l.fn.self.told;
 }

@@ -22,6 +22,7 @@ invariant_of-self c = elim c.match-self.branch [
       rw w.self-inside-is (
         managed_by i.translation i.rules i.live i.arrangement held managed i.placement w.turn.result w.turn.new.self turns,
         stands_turned i.translation i.rules i.live i.arrangement held managed i.placement i.arrangement i.planned w.turn.result w.turn.new.self turns (subst (StandsAt i.arrangement i.planned) w.in-Some.is c.self.invariant.1),
+        c.self.invariant.2,
       )
 ]
 

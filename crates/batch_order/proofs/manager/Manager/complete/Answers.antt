@@ -7,6 +7,7 @@ use Rattle.batch_order.specs.Kept.{IsManaged, held_of, held_writes, translated_b
 use Rattle.batch_order.specs.Managed.{Managed}
 use Rattle.batch_order.specs.Steps.{IsAllMade, Steps, is_turned}
 use Rattle.batch_order.specs.Undoing.{StandsAt}
+use Rattle.batch_order.proofs.Told.{told_same}
 use Rattle.batch_order.proofs.under_way.Carried.{view_of, managed_after, finish_steps, IsFinished}
 use Rattle.batch_order.proofs.under_way.Left.{forward_actions, steps_as}
 use Rattle.batch_order.proofs.under_way.Ways.{forward_way}
@@ -57,7 +58,11 @@ invariant_of-self-in-Some c =
     c.translate.ensures i.live.entries held.rewrites.items
     ∙ ap (λ (rules : List Rule). translated_by i.translation held.bits rules (held_writes i.live.entries held)) c.apply.ensures.rules in
     let stands = subst (StandsAt i.arrangement i.planned) was c.self.invariant.1 in
-    rw c.take.ensures.after (managed_after i.translation c.translate.new.translation i.rules c.apply.new.self i.live c.forget_each.new.self i.arrangement held before turned c.apply.ensures.rules finished, stands.0)
+    rw c.take.ensures.after (
+      managed_after i.translation c.translate.new.translation i.rules c.apply.new.self i.live c.forget_each.new.self i.arrangement held before turned c.apply.ensures.rules finished,
+      stands.0,
+      c.forget_each.ensures.told i.planned (told_same i.live c.rewrite_all.new.self i.planned c.rewrite_all.ensures.live c.rewrite_all.ensures.told c.self.invariant.2),
+    )
 
 pub returns-in-Some : goal.returns-in-Some
 returns-in-Some c words =

@@ -1,10 +1,12 @@
-use Rattle.std.proofs.Common.{◌≡◌, true, Option, Some, None, subst, sym, ap, ◌∙◌}
+use Rattle.std.proofs.Common.{◌≡◌, true, List, Option, Some, None, subst, sym, ap, ◌∙◌}
+use Rattle.placement.specs.declared.LivePiece.{LivePiece}
 use Rattle.batch_order.specs.declared.held.Held.{Held}
+use Rattle.batch_order.specs.Entries.{AreLast}
 use Rattle.batch_order.specs.Kept.{IsManaged}
 use Rattle.batch_order.specs.Steps.{cancelled, is_unwritten}
 use Rattle.batch_order.specs.Undoing.{StandsAt}
 use Rattle.batch_order.proofs.under_way.Carried.{view_of}
-use Rattle.batch_order.proofs.back.Reverted.{IsReverted, dropped_view, managed_reverted}
+use Rattle.batch_order.proofs.back.Reverted.{IsReverted, dropped_view, managed_reverted, reverted_behind}
 use Rattle.batch_order.proofs.under_way.Unwritten.{unwritten_is, unwritten_parts}
 use Rattle.batch_order.proofs.manager.Manager.drop_plan.Goals as goal
 
@@ -17,7 +19,7 @@ forget_all-requires c =
     let said : is_unwritten (view_of i.placement i.translation i.rules i.live i.arrangement i.held).held ≡ true = rw (← c.self.view_is) at c.requires in
     let here = subst (λ (h : Option Held). is_unwritten (view_of i.placement i.translation i.rules i.live i.arrangement h).held ≡ true) was said in
     let one = unwritten_parts held (sym (unwritten_is i.translation i.rules i.live i.arrangement held before) ∙ here) in
-    (before.carried.way_back one.prepared).added
+    subst (λ (live : List LivePiece). AreLast live held.ids.items) (sym c.take_back.ensures.live) (before.carried.way_back one.prepared).added
 
 pub invariant_of-self-in-Some : goal.invariant_of-self-in-Some
 invariant_of-self-in-Some c =
@@ -25,14 +27,16 @@ invariant_of-self-in-Some c =
     let held = c.in-Some.held in
     let was : i.held ≡ Some held = cc in
     let before = subst (IsManaged i.translation i.rules i.live i.arrangement) was c.self.invariant.0 in
-    let reverted : IsReverted i.live c.forget_all.new.live held = record { live = c.forget_all.ensures.live; entries = c.forget_all.ensures.kept; slots = c.forget_all.ensures.slots } in
+    let reverted : IsReverted i.live c.forget_all.new.live held =
+    reverted_behind i.live c.take_back.new.live c.forget_all.new.live held c.take_back.ensures.live c.take_back.ensures.entries c.take_back.ensures.slots c.forget_all.ensures.live c.forget_all.ensures.kept c.forget_all.ensures.slots in
     let said : is_unwritten (view_of i.placement i.translation i.rules i.live i.arrangement i.held).held ≡ true = rw (← c.self.view_is) at c.requires in
     let here = subst (λ (h : Option Held). is_unwritten (view_of i.placement i.translation i.rules i.live i.arrangement h).held ≡ true) was said in
     let one = unwritten_parts held (sym (unwritten_is i.translation i.rules i.live i.arrangement held before) ∙ here) in
     let stands = subst (StandsAt i.arrangement i.planned) was c.self.invariant.1 in
     rw c.take.ensures.after (
       managed_reverted i.translation i.rules i.live c.forget_all.new.live i.arrangement held before (before.carried.way_back one.prepared) reverted,
-      c.take_back.ensures i.arrangement (stands.1 one.prepared),
+      c.take_back.ensures.back i.arrangement (stands.1 one.prepared),
+      c.forget_all.ensures.told c.take_back.new.arrangement (c.take_back.ensures.told c.self.invariant.2),
     )
 
 pub take_back-requires : goal.take_back-requires
@@ -52,7 +56,8 @@ returns-in-Some c =
     let held = c.in-Some.held in
     let was : i.held ≡ Some held = cc in
     let before = subst (IsManaged i.translation i.rules i.live i.arrangement) was c.self.invariant.0 in
-    let reverted : IsReverted i.live c.forget_all.new.live held = record { live = c.forget_all.ensures.live; entries = c.forget_all.ensures.kept; slots = c.forget_all.ensures.slots } in
+    let reverted : IsReverted i.live c.forget_all.new.live held =
+    reverted_behind i.live c.take_back.new.live c.forget_all.new.live held c.take_back.ensures.live c.take_back.ensures.entries c.take_back.ensures.slots c.forget_all.ensures.live c.forget_all.ensures.kept c.forget_all.ensures.slots in
     let view : view_of i.placement i.translation i.rules i.live i.arrangement i.held ≡ c.args.self.now = c.self.view_is in
     let said : is_unwritten (view_of i.placement i.translation i.rules i.live i.arrangement i.held).held ≡ true = rw (← c.self.view_is) at c.requires in
     let here = subst (λ (h : Option Held). is_unwritten (view_of i.placement i.translation i.rules i.live i.arrangement h).held ≡ true) was said in

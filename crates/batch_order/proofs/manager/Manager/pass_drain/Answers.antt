@@ -23,6 +23,7 @@ invariant_of-self c =
           rw w.self-inside-is (
             managed_drained i.translation i.rules i.live i.arrangement held (subst (IsManaged i.translation i.rules i.live i.arrangement) w.in-Some.is c.self.invariant.0) i.placement next,
             subst (StandsAt i.arrangement i.planned) w.in-Some.is c.self.invariant.1,
+            c.self.invariant.2,
           )
     ]
 

@@ -35,6 +35,7 @@ invariant_of-self c = elim c.match-self.branch [
       rw w.self-inside-is (rw w.pass.ensures (
         managed_next i.translation i.rules i.live i.arrangement held (subst (IsManaged i.translation i.rules i.live i.arrangement) w.in-Some.is c.self.invariant.0) i.placement next,
         subst (StandsAt i.arrangement i.planned) w.in-Some.is c.self.invariant.1,
+        c.self.invariant.2,
       ))
 ]
 

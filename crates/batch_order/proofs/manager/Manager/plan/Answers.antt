@@ -22,7 +22,7 @@ use Rattle.batch_order.specs.declared.plan.Plan.{Plan}
 use Rattle.batch_order.specs.declared.planned_writes.PlannedWrite.{PlannedWrite}
 use Rattle.batch_order.specs.declared.planned_writes.PlannedWrite.TheVariants.{Tabled}
 use Rattle.batch_order.specs.declared.translation.Translation.{Translation}
-use Rattle.batch_order.specs.Entries.{AddsIds, Entries, HaveIds}
+use Rattle.batch_order.specs.Entries.{AddsIds, AreTold, Entries, HaveIds}
 use Rattle.batch_order.specs.Kept.{IsManaged, bits_of, held_of, mode_of, settled_state}
 use Rattle.batch_order.specs.Placing.{aims_of}
 use Rattle.batch_order.specs.Noting.{BeginsWithWords, all_undo}
@@ -34,8 +34,10 @@ use Rattle.batch_order.proofs.ids.Numbered.{arranged_number}
 use Rattle.batch_order.proofs.ids.Needed.{rules_entries}
 use Rattle.batch_order.proofs.planning.Judged.{accepted_room, entries_few, idle_held}
 use Rattle.batch_order.proofs.arranged.Cleared.{all_stand}
+use Rattle.batch_order.proofs.arranged.Unchanged.{settled_same}
 use Rattle.batch_order.proofs.under_way.Carried.{view_of}
 use Rattle.batch_order.proofs.planning.Refused.{managed_same, view_same}
+use Rattle.batch_order.proofs.planning.Retold.{AreSame, adds_same, since_same}
 use Rattle.batch_order.proofs.planning.Taken.{ArePartsOf, IsCoded, IsTaken, behind_by, behind_serves, during_by, inserted_room, kept_so, pieces_have_ids, plan_made, plan_words, said_so, words_by}
 use Rattle.batch_order.proofs.planning.Leading.{AreLiveParts, few_rewrites, live_parts, parts_apart, parts_live_before}
 use Rattle.batch_order.proofs.planning.Holding.{IsHeldPlan, holds_plan, managed_held}
@@ -137,7 +139,8 @@ plan_writes-requires c =
       room = rw c.in_ok-parts.ensures.inserted room;
       encodable = rw c.in_ok-parts.ensures.inserted encodable;
       plannable = rw (stands_as i.placement i.translation i.rules i.live i.arrangement i.planned i.held c.args.self.now c.self.view_is c.requires.idle c.self.invariant.1) (plan_words i.live i.arrangement c.plan_words.new.plan.writes (words_by i.translation i.rules i.live i.arrangement batch) words (c.plan_words.ensures.no_changes ∙ c.new-plan.ensures.no_changes) t.managed.carried.settled
-          (tables_in_use i.live.slots (words_by i.translation i.rules i.live i.arrangement batch) (bit_writes-tables (settled_state i.translation i.live.entries i.arrangement) (new_bits (bits_of i.translation) during))));
+          (tables_in_use i.live.slots (words_by i.translation i.rules i.live i.arrangement batch) (bit_writes-tables (settled_state i.translation i.live.entries i.arrangement) (new_bits (bits_of i.translation) during)))
+          (subst (λ (slots : Slots). AreTold i.live slots) (stands_as i.placement i.translation i.rules i.live i.arrangement i.planned i.held c.args.self.now c.self.view_is c.requires.idle c.self.invariant.1) c.self.invariant.2));
       begins = subst (λ (m : Mode). BeginsWithWords m c.plan_words.new.plan) (sym (ap (λ (now : Managed). now.mode) c.self.view_is)) c.in_ok-bits.ensures.begins;
       few =
           let fewer = few_rewrites (mode_of i.translation) during i.rules.rules batch i.live.slots i.live.live rewrites erased t.managed.carried.settled.apart t.change of_batch in
@@ -179,6 +182,7 @@ invariant_of-self-in_err-ids c =
       subst (IsManaged i.translation c.reserve.new.self c.plan_writes.new.live i.arrangement) (sym none)
           (managed_same i.translation i.rules c.reserve.new.self i.live c.plan_writes.new.live i.arrangement managed c.reserve.ensures.rules c.in_err-ids.ensures.refused c.plan_writes.ensures.slots c.plan_writes.ensures.kept),
       subst (StandsAt i.arrangement c.plan_writes.new.arrangement) (sym none) (c.in_err-ids.ensures.back ∙ stands),
+      c.plan_writes.ensures.told,
     )
 
 pub returns-in_err-ids-clause-refused : goal.returns-in_err-ids-clause-refused
@@ -220,13 +224,17 @@ held_now c = record {
   most_parts = c.plan_writes.new.plan.most_parts;
 }
 
+-- where the erased ids stand no more is told too
+same_now : (c : goal.After-drop-plan-3) → AreSame c.plan_writes.new.live c.erase_all.new.live
+same_now c = record { live = c.erase_all.ensures.live; entries = c.erase_all.ensures.entries; slots = c.erase_all.ensures.number }
+
 stands_now : (c : goal.After-drop-plan-3) → c.self.inside.planned ≡ c.self.inside.arrangement
 stands_now c =
     let i = c.self.inside in
     stands_as i.placement i.translation i.rules i.live i.arrangement i.planned i.held c.args.self.now c.self.view_is c.requires.idle c.self.invariant.1
 
 plan_now : (c : goal.After-drop-plan-3)
-    → IsHeldPlan c.self.inside.placement c.self.inside.translation c.self.inside.rules c.reserve.new.self c.self.inside.live c.plan_writes.new.live c.self.inside.arrangement c.plan_writes.new.arrangement
+    → IsHeldPlan c.self.inside.placement c.self.inside.translation c.self.inside.rules c.reserve.new.self c.self.inside.live c.erase_all.new.live c.self.inside.arrangement c.plan_writes.new.arrangement
     c.args.batch.now (held_now c)
 plan_now c =
     let i = c.self.inside in
@@ -238,13 +246,15 @@ plan_now c =
     let words = words_as i.placement i.translation i.rules i.live i.arrangement i.held c.args.self.now batch (all_writes c.plan_words.new.plan.writes) c.self.view_is c.requires.idle c.in_ok-bits.ensures.writes in
     let size = length-map (words_by i.translation i.rules i.live i.arrangement batch) Tabled in
     let all = c.in_ok-ids.ensures.planned in
+    let inserted = since_same i.live c.plan_writes.new.live c.erase_all.new.live i.planned c.plan_writes.new.arrangement c.plan_words.new.plan all.between _ _ (same_now c) all.inserted in
     let pieces = said_so i.translation i.rules batch bits coded (λ m b. parts.inserted.items ≡ inserted_pieces m b i.rules.rules batch) c.in_ok-parts.ensures.inserted in
-    let since = planned_from i.live c.plan_writes.new.live i.arrangement i.planned c.plan_writes.new.arrangement c.plan_words.new.plan all.between i.placement (mode_of i.translation)
-    i.rules.rules c.reserve.new.self.rules (inserted_pieces (mode_of i.translation) (during_by i.translation i.rules batch) i.rules.rules batch) parts.inserted.items (stands_now c) c.reserve.ensures.rules pieces all.inserted in
-    let counted = plan_made i.placement i.translation i.rules i.live c.plan_writes.new.live i.arrangement c.plan_writes.new.arrangement batch parts.rewrites.items parts.erased.items c.plan_words.new.plan all.between
+    let since = planned_from i.live c.erase_all.new.live i.arrangement i.planned c.plan_writes.new.arrangement c.plan_words.new.plan all.between i.placement (mode_of i.translation)
+    i.rules.rules c.reserve.new.self.rules (inserted_pieces (mode_of i.translation) (during_by i.translation i.rules batch) i.rules.rules batch) parts.inserted.items (stands_now c) c.reserve.ensures.rules pieces inserted in
+    let counted = plan_made i.placement i.translation i.rules i.live c.erase_all.new.live i.arrangement c.plan_writes.new.arrangement batch parts.rewrites.items parts.erased.items c.plan_words.new.plan all.between
     (all_writes c.plan_writes.new.plan.writes) c.counts-counts.result t
     (parts_as i.translation i.rules batch bits i.live.live parts.rewrites.items parts.erased.items coded c.in_ok-parts.ensures.rewrites c.in_ok-parts.ensures.erased)
-    c.plan_writes.ensures.slots c.in_ok-ids.ensures.planned.settled since
+    (c.erase_all.ensures.number ∙ c.plan_writes.ensures.slots)
+    (settled_same c.plan_writes.new.live c.erase_all.new.live c.plan_writes.new.arrangement all.settled c.erase_all.ensures.live c.erase_all.ensures.number) since
     record {
       writes = words;
       number = c.in_ok-bits.ensures.words ∙ (ap length words ∙ size);
@@ -260,6 +270,7 @@ plan_now c =
       words = c.counts-counts.ensures.words ∙ c.in_ok-ids.ensures.planned.words;
       most = c.counts-counts.ensures.most ∙ c.in_ok-ids.ensures.planned.most;
       span = c.counts-counts.ensures.span ∙ c.in_ok-ids.ensures.planned.span;
+      few = c.in_ok-ids.ensures.planned.few;
     } in
     record {
       plan = counted.plan;
@@ -271,8 +282,8 @@ plan_now c =
       undrained = refl;
       forward = refl;
       undo = subst (λ (slots : Slots). AreRestoring i.translation slots (all_writes c.plan_writes.new.plan.writes) (all_undo c.plan_writes.new.plan.undo)) (stands_now c) c.in_ok-ids.ensures.undo
-          c.plan_writes.new.live.entries parts.rewrites.items;
-      adds = c.in_ok-ids.ensures.adds;
+          c.erase_all.new.live.entries parts.rewrites.items;
+      adds = adds_same i.live c.plan_writes.new.live c.erase_all.new.live c.in_ok-ids.ids.items (same_now c) c.in_ok-ids.ensures.adds;
       batch_is = c.in_ok-commands.ensures;
       coded = coded;
     }
@@ -281,14 +292,15 @@ pub invariant_of-self-2 : goal.invariant_of-self-2
 invariant_of-self-2 c =
     let i = c.self.inside in
     let spare : length c.args.batch.now ≤ c.reserve.new.self.spare = (let n : c.len.result ≡ length c.args.batch.now = c.len.ensures.count in let e : c.len.result ≤ c.reserve.new.self.spare = c.in_ok-reserve.ensures.enough in omega arith) in
-    let erased : c.erase_all.new.arrangement ≡ erased_slots c.plan_writes.new.arrangement c.in_ok-parts.parts.erased.items = c.erase_all.ensures ∙ ap (erased_slots c.plan_writes.new.arrangement) c.deref.ensures.value in
+    let erased : c.erase_all.new.arrangement ≡ erased_slots c.plan_writes.new.arrangement c.in_ok-parts.parts.erased.items = c.erase_all.ensures.slots ∙ ap (erased_slots c.plan_writes.new.arrangement) c.deref.ensures.value in
     rw c.plan_writes.ensures.same (
-      managed_held i.placement i.translation i.rules c.reserve.new.self i.live c.plan_writes.new.live i.arrangement c.plan_writes.new.arrangement c.args.batch.now (held_now c) (plan_now c) spare (c.of.ensures ∙ erased),
+      managed_held i.placement i.translation i.rules c.reserve.new.self i.live c.erase_all.new.live i.arrangement c.plan_writes.new.arrangement c.args.batch.now (held_now c) (plan_now c) spare (c.of.ensures ∙ erased),
       (
         sym c.of.ensures,
         λ prepared. subst (λ (now : Slots). TakesBack i.arrangement now c.plan_writes.new.plan.undo) (sym erased)
             (subst (λ (before : Slots). TakesBack before (erased_slots c.plan_writes.new.arrangement c.in_ok-parts.parts.erased.items) c.plan_writes.new.plan.undo) (stands_now c) c.in_ok-ids.ensures.takes_back),
       ),
+      c.erase_all.ensures.told c.plan_writes.ensures.told,
     )
 
 pub returns-clause-ready : goal.returns-clause-ready
@@ -297,8 +309,8 @@ returns-clause-ready c =
     let batch = c.args.batch.now in
     let none = idle_held (held_of i.translation i.arrangement i.rules.rules i.live.entries) i.held (rw (← c.self.view_is) at c.requires.idle) in
     let view : view_of i.placement i.translation i.rules i.live i.arrangement i.held ≡ c.args.self.now = c.self.view_is in
-    let new = view_of i.placement i.translation c.reserve.new.self c.plan_writes.new.live i.arrangement (Some (held_now c)) in
+    let new = view_of i.placement i.translation c.reserve.new.self c.erase_all.new.live i.arrangement (Some (held_now c)) in
     let holds : Holds (view_of i.placement i.translation i.rules i.live i.arrangement None) batch c.counts-counts.result new =
-    holds_plan i.placement i.translation i.rules c.reserve.new.self i.live c.plan_writes.new.live i.arrangement c.plan_writes.new.arrangement batch (held_now c) (plan_now c) in
+    holds_plan i.placement i.translation i.rules c.reserve.new.self i.live c.erase_all.new.live i.arrangement c.plan_writes.new.arrangement batch (held_now c) (plan_now c) in
     rw c.plan_writes.ensures.same (subst (λ (old : Managed). Holds old batch c.counts-counts.result new) view
     (subst (λ (h : Option Held). Holds (view_of i.placement i.translation i.rules i.live i.arrangement h) batch c.counts-counts.result new) (sym none) holds))

@@ -46,4 +46,8 @@ returns-clause-planned g c =
       most = rest.most;
       span = rest.span;
       most_parts = rest.most_parts;
+      few = rest.few;
     }
+
+pub returns-clause-told : goal.returns-clause-told
+returns-clause-told g c = c.in_ok-ids.ensures.plannable.told

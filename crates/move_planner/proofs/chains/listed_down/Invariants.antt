@@ -3,7 +3,7 @@ use Rattle.slot_pool.specs.Arrangement.{first_slot}
 use Rattle.placement.specs.Live.{is_above}
 use Rattle.move_planner.proofs.Ends.{among}
 use Rattle.move_planner.proofs.Sought.{HoldNoLower}
-use Rattle.move_planner.proofs.chains.step_down.Given as goal
+use Rattle.move_planner.proofs.chains.listed_down.Given as goal
 
 -- the first slot of the ids so far, those that are left, and the slots that were passed
 abbrev pub invariant-loop-other : goal.invariant-loop-other

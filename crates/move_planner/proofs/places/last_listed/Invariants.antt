@@ -1,11 +1,11 @@
 use Rattle.std.proofs.Common.{◌≡◌, ◌++◌}
-use Rattle.slot_pool.specs.Arrangement.{first_slot}
+use Rattle.slot_pool.specs.Arrangement.{last_slot}
 use Rattle.move_planner.proofs.Ends.{among}
-use Rattle.move_planner.proofs.places.first_lower.Given as goal
+use Rattle.move_planner.proofs.places.last_listed.Given as goal
 
--- the first slot of the ids so far, and those that are left
+-- the last slot of the ids so far, and those that are left
 abbrev pub invariant-loop-other : goal.invariant-loop-other
 invariant-loop-other l = record {
-  first : l.first ≡ first_slot (among l.yielded) l.slots;
+  last : l.last ≡ last_slot (among l.yielded) l.slots;
   left : l.yielded ++ l.other-iterator ≡ l.initial.other-iterator;
 }
