@@ -52,7 +52,7 @@ impl<D: Device + Drop> Driven<D> {
     /// one, and each range that isn't one block takes a bit of its field's translation table. Each insertion aims where the
     /// placement says: `Rank` for routes, `Ends` for an access list.
     ///
-    /// `Slots` comes exactly where that isn't 1 to 4,096 slots, or the device hasn't them; else it fails only for want of
+    /// `Slots` comes exactly where that isn't 1 to `MOST_SLOTS` slots, or the device hasn't them; else it fails only for want of
     /// memory. The device is let go then.
     pub fn new(
         alloc: Global,

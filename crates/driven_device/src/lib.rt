@@ -33,7 +33,7 @@ use thiserror::Error;
 /// Why there is no manager for a device.
 #[derive(Clone, Copy, Debug, PartialEq, Eq, Error)]
 pub enum SetUpFault {
-    /// A manager has 1 to 4,096 slots, and its device has them.
+    /// A manager has 1 to 1,048,576 slots, and its device has them.
     #[error("{0} slots can't be in use")]
     Slots(u32),
     /// Want of memory.
@@ -44,7 +44,7 @@ pub enum SetUpFault {
 /// Why no manager goes on with what a device shows.
 #[derive(Clone, Copy, Debug, PartialEq, Eq, Error)]
 pub enum RestartedFault {
-    /// A manager has 1 to 4,096 slots, and its device has them.
+    /// A manager has 1 to 1,048,576 slots, and its device has them.
     #[error("{0} slots can't be in use")]
     Slots(u32),
     /// By covers the tables are blank, and a word of one isn't 0.

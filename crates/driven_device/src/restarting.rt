@@ -37,7 +37,7 @@ impl<D: ReadBack> Driven<D> {
     /// of itself, and with the slots in use and the mode that it had. The manager holds the plan that goes on from what the
     /// device shows, and `step` and `carry_out` make its writes. It can't be turned round.
     ///
-    /// `Slots` comes exactly where that isn't 1 to 4,096 slots, or the device hasn't them, then `Tables` exactly where by
+    /// `Slots` comes exactly where that isn't 1 to `MOST_SLOTS` slots, or the device hasn't them, then `Tables` exactly where by
     /// covers a word of a table isn't 0. Else it is refused as `Manager::restart` is: `Refused` exactly where the rules alone
     /// refuse the batch, and `Stage` by what is wrong with the parts and the device. Parts and device come back as they were.
     pub fn restart(

@@ -10,7 +10,7 @@ use crate::DriverLine;
 use rule_model::IpVersion;
 use script_lines::{LINE_BYTES, Line};
 use serde_json::{Map, Value};
-use slot_order::MOST_SLOTS;
+use slot_order::SCRIPT_SLOTS;
 use std::alloc::Global;
 use trace_file::{TraceFault, read_line};
 
@@ -94,12 +94,12 @@ fn move_of(value: &Value) -> Option<DriverLine>
     }
 }
 
-/// How many slots, from 1 to 4,096.
+/// How many slots, from 1 to `SCRIPT_SLOTS`.
 fn count_of(value: &Value) -> Option<u32>
     ensures { result ≡ slots_in (view value.now) }
 {
     let count = number_of_32_bits(value)?;
-    if 1 <= count && count <= MOST_SLOTS {
+    if 1 <= count && count <= SCRIPT_SLOTS {
         Some(count)
     } else {
         None

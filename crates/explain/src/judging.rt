@@ -11,14 +11,11 @@ use crate::room::{tell_bits, tell_slots};
 use readback::{Rejection, verdict};
 use replay::goes_in_two;
 use rule_model::Rank;
-use rule_store::{Batch, Command};
+use rule_store::{BATCH_COMMANDS, Batch, Command};
 use settled_changes::Requested;
 use slot_order::MOST_SLOTS;
 use std::alloc::AllocError;
 use std::collections::BTreeMap;
-
-/// The most commands of a batch (`most_commands` in definitions).
-const BATCH_COMMANDS: u32 = 12288;
 
 /// Notes the lines of the commands of a batch that is carried out.
 fn note(seen: &mut BTreeMap<Rank, Seen>, batch: &Batch, lines: &[u32]) -> Result<(), AllocError>

@@ -7,8 +7,9 @@ ghost use Rattle.explain.specs.Steps.{settled_to, verdict_in};
 
 use crate::explainer::Explainer;
 use rule_model::Rank;
-use rule_store::{Batch, BatchFault, PENDING_COMMANDS};
+use rule_store::{Batch, BatchFault};
 use settled_changes::{Request, Requested, SettleFault};
+use slot_order::MOST_SLOTS;
 use std::alloc::AllocError;
 use std::collections::BTreeMap;
 
@@ -32,7 +33,7 @@ impl Explainer {
         ensures taken { IfOk result (λ fault. IfNone fault ((self.new ≡ settled_to self.old) × (verdict_in self.new ≡ verdict_in self.old))) }
         ensures refused { IfOk result (λ fault. IfSome fault (λ why. (self.new ≡ self.old) × (verdict_in self.old ≡ Unsound why))) }
     {
-        if self.rules.len() > PENDING_COMMANDS {
+        if self.rules.len() > MOST_SLOTS {
             return Err(AllocError);
         }
         match self.asked.settle(self.alloc, &self.rules) {

@@ -1,7 +1,7 @@
 -- The events of a commit have numbers as a trace of its version of IP has them.
 use Rattle.std.proofs.Common.{◌≡◌, ℕ, suc, ◌^◌, ◌<◌, ◌≤◌, Some, None, List, [], ◌∷◌, length, take, map, Contains, inl, inr, sym, subst, arith, get_or-set_same}
 use Rattle.std.specs.List.{AllByRecursion}
-use Rattle.slot_order.specs.Order.{most_slots}
+use Rattle.slot_order.specs.Order.{script_slots}
 use Rattle.slot_order.proofs.Lists.{all_append}
 use Rattle.slot_order.proofs.Writes.{slot_same}
 use Rattle.rule_model.specs.declared.IpVersion.{IpVersion}
@@ -94,7 +94,7 @@ abbrev AreKnown : IpVersion → Tracing → Type 0
 AreKnown version now = (x : RankedPiece) → Contains (known_pieces (commit_pieces now.mode now.bits now.rules now.batch)) x → IsTraceRanked version x
 
 pub events_within : (version : IpVersion) (actions : List Action) (now : Tracing) (number : ℕ) → AllKeepOrder now (commit_lines actions number) → AllByRecursion (IsInUse (length now.state.slots)) (writes_in actions)
-    → length now.state.slots ≤ most_slots → AreKnown version now → AllByRecursion TableFits (writes_in actions) → AllByRecursion (IsTraceLineOf version) (map action_line actions)
+    → length now.state.slots ≤ script_slots → AreKnown version now → AllByRecursion TableFits (writes_in actions) → AllByRecursion (IsTraceLineOf version) (map action_line actions)
 events_within version [] now number keeps inside few known tables = tt
 events_within version (Written (write.Slot at (Some entry)) ∷ actions) now number keeps inside few known tables =
     let next : Tracing = traced_on now (Put at entry) in

@@ -2,12 +2,12 @@
 use Rattle.std.proofs.Common.{◌≡◌, Bool, true, false, ℕ, suc, ◌+◌, ◌^◌, ◌<◌, ◌≤◌, List, [], ◌∷◌, ◌++◌, length, map, None, refl, sym, ap, ap₂, ◌∙◌, subst, arith, append_assoc, append-nil, length-append}
 use Rattle.std.proofs.lemmas.Grind.{flat_map-append}
 use Rattle.std.specs.List.{AllByRecursion}
-use Rattle.slot_order.specs.Order.{most_slots}
+use Rattle.slot_order.specs.Order.{script_slots}
 use Rattle.slot_order.proofs.Lists.{all_append}
 use Rattle.rule_model.specs.declared.IpVersion.{IpVersion}
 use Rattle.rule_model.specs.declared.Rule.{Rule}
 use Rattle.rule_store.specs.declared.Command.{Command as Change}
-use Rattle.rule_store.specs.Batch.{most_commands, set_after}
+use Rattle.rule_store.specs.Batch.{set_after}
 use Rattle.rule_store.specs.Verdict.{Verdict, Accepted, Unsound, OutOfBits, OutOfSlots, verdict}
 use Rattle.tcam_device.specs.declared.Write.{Write}
 use Rattle.tcam_device.specs.declared.Action.{Action}
@@ -25,7 +25,7 @@ use Rattle.trace_file.specs.Forms.{IsTraceLineOf}
 use Rattle.json_text.specs.JsonText.{json_line}
 use Rattle.trace_check.specs.Hitless.{trace_writes}
 use Rattle.trace_check.specs.Orderly.{Tracing, traced_on, AllKeepOrder}
-use Rattle.trace_check.specs.Places.{Part, Refusal, Work, IsPart, part_lines, parts_lines}
+use Rattle.trace_check.specs.Places.{Part, Refusal, Work, IsPart, part_lines, parts_lines, trace_commands}
 use Rattle.trace_check.specs.Segments.{action_line, commit_lines}
 use Rattle.replay.specs.declared.Act.{Act}
 use Rattle.replay.specs.declared.Act.TheVariants.{Command, Ask, All, Probe, Packet, Commit, Trial, Crash}
@@ -78,7 +78,7 @@ commands_within version (one ∷ batch) told = (told.0, commands_within version 
 abbrev next_number : Progress → ℕ
 next_number old = old.commits + 1
 
-module _ (asked : Setting) (device_slots : ℕ) (few : asked.slots ≤ most_slots) (fault : List ℕ) where
+module _ (asked : Setting) (device_slots : ℕ) (few : asked.slots ≤ script_slots) (fault : List ℕ) where
   abbrev setting : Setting
   setting = in_json asked
 
@@ -266,7 +266,7 @@ module _ (asked : Setting) (device_slots : ℕ) (few : asked.slots ≤ most_slot
 
     part_is : IsPart setting.slots (Work commands events)
     part_is = (
-      subst (λ n. n ≤ most_commands) (sym (command_count old.batch)) stands.short,
+      subst (λ n. n ≤ trace_commands) (sym (command_count old.batch)) stands.short,
       are_commands old.batch,
       are_events setting.slots actions (subst (AllByRecursion (IsInUse setting.slots)) (sym written) in_use),
     )
@@ -277,7 +277,7 @@ module _ (asked : Setting) (device_slots : ℕ) (few : asked.slots ≤ most_slot
         let tables : AllByRecursion TableFits (writes_in actions) = subst (AllByRecursion TableFits) (sym written) (segment_tables setting.mode old.bits old.rules old.batch old.state made begin segment) in
         let inside : AllByRecursion (IsInUse (length state.slots)) (writes_in actions) =
         subst (AllByRecursion (IsInUse (length state.slots))) (sym written) (subst (λ n. AllByRecursion (IsInUse n) made) (sym stands.size) in_use) in
-        let room : length state.slots ≤ most_slots = subst (λ n. n ≤ most_slots) (sym stands.size) few in
+        let room : length state.slots ≤ script_slots = subst (λ n. n ≤ script_slots) (sym stands.size) few in
         let here = events_within (family_version setting.family) actions in_batch number events_keep inside room (known_ranked (family_version setting.family) setting.mode old.bits old.rules old.batch old.state begin stands.rules_told stands.told) tables in
         (small, all_append (IsTraceLineOf (family_version setting.family)) commands (events ++ line.Done number ∷ []) (commands_within (family_version setting.family) old.batch stands.told) (all_append (IsTraceLineOf (family_version setting.family)) events (line.Done number ∷ []) here (small, tt)))
 

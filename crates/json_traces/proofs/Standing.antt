@@ -9,7 +9,7 @@ use Rattle.rule_model.specs.declared.IpVersion.{IpVersion}
 use Rattle.rule_model.specs.declared.words.Entry.{Entry}
 use Rattle.rule_store.specs.declared.Mode.{Mode}
 use Rattle.rule_store.specs.declared.Command.{Command as Change}
-use Rattle.rule_store.specs.Batch.{ChangesRules, most_commands, most_pending}
+use Rattle.rule_store.specs.Batch.{ChangesRules, most_pending}
 use Rattle.rule_store.specs.declared.BatchFault.{BatchFault}
 use Rattle.rule_store.specs.Verdict.{Accepted, Verdict, room_verdict, verdict, verdict_by}
 use Rattle.tcam_device.specs.declared.Write.{Write}
@@ -27,7 +27,7 @@ use Rattle.trace_file.specs.Forms.{IsTraceRule}
 use Rattle.readback.proofs.Accepted.{taken}
 use Rattle.trace_check.proofs.Ended.{segment_ended}
 use Rattle.replay.specs.Effects.{Setting}
-use Rattle.slot_order.specs.Order.{most_slots}
+use Rattle.slot_order.specs.Order.{script_slots}
 use Rattle.rule_model.specs.Rule.{HasConditions}
 use Rattle.rule_model.specs.RuleSet.{IsRuleSet}
 use Rattle.settled_changes.specs.Requests.{asked_set, requests_fault}
@@ -35,7 +35,7 @@ use Rattle.settled_changes.specs.Settled.{settled, whole_requests}
 use Rattle.settled_changes.proofs.Forgiving.{whole-set}
 use Rattle.settled_changes.proofs.Leads.{leads}
 use Rattle.settled_changes.proofs.Many.{twice_as_many}
-use Rattle.settled_changes.proofs.OverNone.{whole_fits}
+use Rattle.settled_changes.proofs.OverNone.{whole_few}
 use Rattle.settled_changes.proofs.At.{asked-set}
 use Rattle.batch_order.proofs.ids.Needed.{rules_entries}
 use Rattle.batch_order.proofs.planning.Judged.{accepted_room}
@@ -51,6 +51,7 @@ use Rattle.tcam_cli.proofs.PartedWrites.{accepted-first}
 use Rattle.json_traces.proofs.PartsTold.{early_few, early_short, early_told, late_few, late_told}
 use Rattle.json_traces.proofs.SettledTold.{batch_told, forms_of}
 use Rattle.json_traces.proofs.TraceRules.{IsTraceChange, told_changes, set_told}
+use Rattle.trace_check.specs.Places.{trace_commands}
 
 -- The slots in use hold a state, and over a device of so many slots the run is at rest with it. Rules and changes are those
 -- of a trace of the family's version, and no more changes are pending than a batch has room for.
@@ -61,7 +62,7 @@ pub record StandsIn (setting : Setting) (device_slots : ℕ) (old : Progress) (s
   pub unused : HasUnused setting.slots old.state
   pub rules_told : AllByRecursion (IsTraceRule (family_version setting.family)) old.rules
   pub told : AllByRecursion (IsTraceChange (family_version setting.family)) old.batch
-  pub short : length old.batch ≤ most_commands
+  pub short : length old.batch ≤ trace_commands
 
 -- Where acts stand between two commits: likewise, with what is asked for beside the batch. No more changes are pending than may
 -- wait.
@@ -148,7 +149,7 @@ stands_behind setting device_slots old state made stands accepted segment in_use
 -- ---- what is pending, once it is settled
 
 -- where it is accepted the set takes it, and there is room for its batch
-module _ (setting : Setting) (old : Progress) (set : IsRuleSet old.rules) (right : AllByRecursion HasConditions old.rules) (few_slots : setting.slots ≤ most_slots) where
+module _ (setting : Setting) (old : Progress) (set : IsRuleSet old.rules) (right : AllByRecursion HasConditions old.rules) (few_slots : setting.slots ≤ script_slots) where
   -- no fault is found of what is accepted
   no_fault : (found : Option BatchFault) (room : Verdict) → verdict_by found room ≡ Accepted → (found ≡ None) × (room ≡ Accepted)
   no_fault None room accepted = (refl, accepted)
@@ -181,13 +182,13 @@ module _ (setting : Setting) (old : Progress) (set : IsRuleSet old.rules) (right
       let fewer = rules_entries setting.mode old.rules right in
       omega arith
 
-  pub settled_short : (asked : Requested) → changes_in old.batch asked ≤ most_pending → length old.rules ≤ most_pending → length (settled_batch old.rules old.batch asked) ≤ most_commands
+  pub settled_short : (asked : Requested) → changes_in old.batch asked ≤ most_pending → length old.rules ≤ most_pending → length (settled_batch old.rules old.batch asked) ≤ trace_commands
   settled_short Nothing short few = omega arith
   settled_short (Changes requests) short few = let many = twice_as_many old.rules requests in omega arith
-  settled_short (Whole requests) short few = whole_fits old.rules requests (asked_set [] requests) refl few short
+  settled_short (Whole requests) short few = let all = whole_few old.rules requests (asked_set [] requests) refl in omega arith
 
 -- a run that stands so stands with its settled batch, where that is accepted
-pub stands_settled : (setting : Setting) (device_slots : ℕ) (old : Progress) (state : State) → setting.slots ≤ most_slots → StandsWith setting device_slots old state → pending_verdict setting old ≡ Accepted
+pub stands_settled : (setting : Setting) (device_slots : ℕ) (old : Progress) (state : State) → setting.slots ≤ script_slots → StandsWith setting device_slots old state → pending_verdict setting old ≡ Accepted
     → StandsIn setting device_slots (settled_at old) state
 stands_settled setting device_slots old state few stands accepted = record {
   at = stands.at;
@@ -213,7 +214,7 @@ parted_taken slots mode rules batch Nothing is = tt
 parted_taken slots mode rules batch (Changes requests) is = sound_taken (requests_fault rules requests) _ is
 parted_taken slots mode rules batch (Whole requests) is = sound_taken (requests_fault [] requests) _ is
 
-module _ (setting : Setting) (device_slots : ℕ) (old : Progress) (state : State) (few : setting.slots ≤ most_slots) (stands : StandsWith setting device_slots old state) (right : IsPartedAt setting old) where
+module _ (setting : Setting) (device_slots : ℕ) (old : Progress) (state : State) (few : setting.slots ≤ script_slots) (stands : StandsWith setting device_slots old state) (right : IsPartedAt setting old) where
   abbrev batch : List Change
   batch = settled_batch old.rules old.batch old.asked
 
@@ -223,7 +224,7 @@ module _ (setting : Setting) (device_slots : ℕ) (old : Progress) (state : Stat
   fewer : length old.rules ≤ most_pending
   fewer = rules_few setting old stands.at_rest.is_set stands.at_rest.right few (early_batch early) (accepted-first setting old right)
 
-  batch_is : (AllByRecursion (IsTraceChange (family_version setting.family)) batch) × (length batch ≤ most_commands)
+  batch_is : (AllByRecursion (IsTraceChange (family_version setting.family)) batch) × (length batch ≤ trace_commands)
   batch_is =
       let sound = (and_parts (is_sound (settled_verdict setting.slots setting.mode old.rules old.batch old.asked)) _ right.1.in_two).0 in (
         batch_told (family_version setting.family) old.rules old.batch old.asked stands.rules_told stands.told stands.asks_told (parted_taken setting.slots setting.mode old.rules old.batch old.asked sound),

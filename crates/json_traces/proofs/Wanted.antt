@@ -4,7 +4,7 @@ use Rattle.std.specs.Prelude.{nat_le, nat_lt}
 use Rattle.std.specs.Str.{bytes_eq}
 use Rattle.std.specs.Str.Parse.{without_leading_plus}
 use Rattle.std.proofs.lemmas.Bool.{and_parts}
-use Rattle.slot_order.specs.Order.{most_slots}
+use Rattle.slot_order.specs.Order.{script_slots}
 use Rattle.clap.specs.Walk.{Row, Text}
 use Rattle.clap.specs.Faults.{fault_of}
 use Rattle.clap.specs.Kinds.{Kinds}
@@ -27,7 +27,7 @@ use Rattle.tcam_cli.proofs.NumbersTaken.{tested}
 -- what a script is asked for over: slots in use that there may be
 pub record AsksFor (setting : Setting) : Type 0 where
   pub some : 1 ≤ setting.slots
-  pub most : setting.slots ≤ most_slots
+  pub most : setting.slots ≤ script_slots
 
 -- a number that was asked for is one of its range
 record IsGiven (least greatest : ℕ) (job : ℕ → Job) (setting : Setting) : Type 0 where
@@ -47,7 +47,7 @@ given least greatest text job setting true tells asks =
 given least greatest text job setting false tells asks = absurd (cc)
 
 -- a script over so many slots
-asked : (family : Family) (slots : ℕ) (mode : Option Mode) (placement : Option Placement) (trace : Bool) (depth : ℕ) (json names : Bool) (parts : Option Bool) (setting : Setting) → 1 ≤ slots → slots ≤ most_slots
+asked : (family : Family) (slots : ℕ) (mode : Option Mode) (placement : Option Placement) (trace : Bool) (depth : ℕ) (json names : Bool) (parts : Option Bool) (setting : Setting) → 1 ≤ slots → slots ≤ script_slots
     → job_at family slots mode placement trace depth json names parts ≡ Reads setting → AsksFor setting
 asked family slots None placement trace depth json names parts setting some most asks = absurd (cc)
 asked family slots (Some mode) None trace depth json names parts setting some most asks = absurd (cc)
@@ -59,7 +59,7 @@ asked family slots (Some mode) (Some placement) trace depth json names (Some par
 script_asked : (family : Family) (rows : List Row) (setting : Setting) → tested_script family rows ≡ Reads setting → AsksFor setting
 script_asked family rows setting asks =
     let job : ℕ → ℕ → Job = λ slots depth. job_at family slots (mode_wanted family rows) (placed_by rows) (is_traced rows) depth (is_json rows) (is_named rows) (parted_by rows) in
-    let slots = given 1 most_slots (text_of (codes "slots") rows) (λ slots. job_by (number_given 0 15 (codes "depth") rows) (job slots)) setting (is_unsigned_in 1 most_slots (text_of (codes "slots") rows)) refl asks in
+    let slots = given 1 script_slots (text_of (codes "slots") rows) (λ slots. job_by (number_given 0 15 (codes "depth") rows) (job slots)) setting (is_unsigned_in 1 script_slots (text_of (codes "slots") rows)) refl asks in
     let depth = given 0 15 (text_of (codes "depth") rows) (job slots.number) setting (is_unsigned_in 0 15 (text_of (codes "depth") rows)) refl slots.asks in
     asked family slots.number (mode_wanted family rows) (placed_by rows) (is_traced rows) depth.number (is_json rows) (is_named rows) (parted_by rows) setting slots.low slots.high depth.asks
 
@@ -75,7 +75,7 @@ made_tested rows setting asks =
     let last : ℕ → ℕ → ℕ → ℕ → Job = λ slots seed rules batches. made_at slots (mode_wanted Acl rows) (placed_by rows) seed rules batches in
     let third : ℕ → ℕ → ℕ → Job = λ slots seed rules. job_by (number_given 1 64 (codes "batches") rows) (last slots seed rules) in
     let second : ℕ → ℕ → Job = λ slots seed. job_by (number_given 1 256 (codes "rules") rows) (third slots seed) in
-    let slots = given 1 most_slots (id (codes "slots")) (λ slots. job_by (number_given 0 2147483647 (codes "seed") rows) (second slots)) setting (is_unsigned_in 1 most_slots (id (codes "slots"))) refl asks in
+    let slots = given 1 script_slots (id (codes "slots")) (λ slots. job_by (number_given 0 2147483647 (codes "seed") rows) (second slots)) setting (is_unsigned_in 1 script_slots (id (codes "slots"))) refl asks in
     let seed = given 0 2147483647 (id (codes "seed")) (second slots.number) setting (is_unsigned_in 0 2147483647 (id (codes "seed"))) refl slots.asks in
     let rules = given 1 256 (id (codes "rules")) (third slots.number seed.number) setting (is_unsigned_in 1 256 (id (codes "rules"))) refl seed.asks in
     let batches = given 1 64 (id (codes "batches")) (last slots.number seed.number rules.number) setting (is_unsigned_in 1 64 (id (codes "batches"))) refl rules.asks in

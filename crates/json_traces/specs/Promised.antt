@@ -1,6 +1,6 @@
 -- What a check of the program's own reports in JSON tells.
 use Rattle.std.specs.Prelude.{◌≡◌, ◌⊎◌, ℕ, ◌^◌, ◌<◌, ◌≤◌, true, Some, List, ◌++◌, length}
-use Rattle.slot_order.specs.Order.{most_slots}
+use Rattle.slot_order.specs.Order.{script_slots}
 use Rattle.tcam_device.specs.declared.Action.{Action}
 use Rattle.tcam_device.specs.Flight.{writes_in}
 use Rattle.trace_check.specs.Answers.{Yes, IsTraceAnswer}
@@ -23,6 +23,6 @@ IsReported status = (status ≡ Done) ⊎ ((status ≡ Refused) ⊎ (status ≡ 
 abbrev pub JsonReportsGetYes : Type 0
 JsonReportsGetYes =
     (words : List (List ℕ)) (setting : Setting) (device_slots : ℕ) (status : Status) (old new before report : List ℕ) (events : List Action)
-    → job_of words ≡ Reads setting → setting.json ≡ true → most_slots ≤ device_slots → IsReported status → length (writes_in events) < 2 ^ 64
+    → job_of words ≡ Reads setting → setting.json ≡ true → script_slots ≤ device_slots → IsReported status → length (writes_in events) < 2 ^ 64
     → IsCarriedOut (Reads setting) device_slots status (Some old) (Some new) (Some before) (Some (before ++ report)) events
     → IsTraceAnswer report (Yes (accepted_in setting (acts_of (script_of (reading_by setting) old))) (length (writes_in events)))

@@ -1,7 +1,7 @@
 -- The trace that a report in JSON is.
 use Rattle.std.specs.Prelude.{◌≡◌, ℕ, suc, ◌&&◌, ◌+◌, ◌-◌, ◌^◌, ◌<◌, ◌≤◌, true, false, List, [], ◌∷◌, ◌++◌, length, flat_map}
 use Rattle.std.specs.List.{AllByRecursion}
-use Rattle.slot_order.specs.Order.{most_slots}
+use Rattle.slot_order.specs.Order.{script_slots}
 use Rattle.rule_model.specs.declared.IpVersion.{IpVersion}
 use Rattle.rule_model.specs.declared.IpVersion.TheVariants.{V4}
 use Rattle.rule_model.specs.declared.Rule.{Rule}
@@ -67,7 +67,7 @@ AreTraceActs version pending (Crash after ∷ acts) = ⊥
 pub record WantsTrace (setting : Setting) (device_slots : ℕ) : Type 0 where
   pub json : setting.json ≡ true
   pub some : 1 ≤ setting.slots
-  pub most : setting.slots ≤ most_slots
+  pub most : setting.slots ≤ script_slots
   pub device : setting.slots ≤ device_slots
 
 -- How many commits of some acts are made in two parts, by the rule lists alone.

@@ -1,7 +1,7 @@
 -- The columns of a list of slots.
 use Rattle.std.specs.Prelude.{◌≡◌, ℕ, ◌<◌, ◌≤◌, Bool, true, false, ◌==◌, ◌&&◌, ◌||◌, not, if◌then◌else◌, Option, Some, None, List, [], ◌∷◌, length, replicate, slice_index, slice_set, bit_and, bit_xor, ◌+◌}
 use Rattle.std.specs.List.{AllByRecursion}
-use Rattle.slot_order.specs.Order.{slot}
+use Rattle.slot_order.specs.Order.{slot, most_slots}
 use Rattle.rule_model.specs.declared.words.Word.{Word}
 use Rattle.rule_model.specs.declared.words.Entry.{Entry}
 
@@ -80,7 +80,7 @@ pub record AreUsed (lanes : List Lane) (used : List ℕ) (capacity : ℕ) : Type
 
 -- The columns of these slots.
 pub record AreColumns (slots : List (Option Entry)) (lanes : List Lane) (vacant : List ℕ) : Type 0 where
-  pub most : length slots ≤ 65536
+  pub most : length slots ≤ most_slots
   pub count : length lanes ≡ 11
   pub vacant_size : length vacant ≡ length slots
   pub sizes : AllByRecursion (HasSize (length slots)) lanes

@@ -8,6 +8,7 @@ ghost use Rattle.lane_lookup.specs.Columns.{HasPlace, blank_lane, used_from, wit
 use crate::column::Column;
 use crate::eight::try_eight;
 use rule_model::{Entry, LANES, Word, hits};
+use slot_order::MOST_SLOTS;
 use std::alloc::{AllocError, Global};
 use std::marker::Model;
 
@@ -33,10 +34,10 @@ impl Model for Columns {
 }
 
 impl Columns {
-    /// From 1 to 65,536 slots, all empty.
+    /// From 1 to `MOST_SLOTS` slots, all empty.
     pub fn new(alloc: Global, slots: u32) -> Result<Columns, AllocError>
         requires least { 0 < slots }
-        requires most { slots ≤ 65536 }
+        requires most { slots ≤ MOST_SLOTS }
         ensures { IfOk result (λ columns. columns ≡ replicate slots None) }
     {
         let n = slots as usize;
@@ -51,7 +52,7 @@ impl Columns {
     /// The number of slots.
     pub fn len(&self) -> u32
         ensures value { result ≡ length self.now }
-        ensures most { result ≤ 65536 }
+        ensures most { result ≤ MOST_SLOTS }
     {
         self.slots.len() as u32
     }

@@ -2,10 +2,10 @@
 use Rattle.std.proofs.Common.{◌≡◌, ℕ, ◌+◌, ◌<◌, Bool, true, false, Option, Some, None, [], inl, refl, sym, subst}
 use Rattle.std.specs.Prelude.{IsSome, nat_eq, nat_lt}
 use Rattle.std.proofs.lemmas.Bool.{ltb-true}
-use Rattle.rule_store.specs.Batch.{IsSound, most_commands}
+use Rattle.rule_store.specs.Batch.{IsSound}
 use Rattle.trace_check.specs.declared.places.Place.{Place}
 use Rattle.trace_check.specs.declared.places.Place.TheVariants.{AtStart, Between, InBatch, InEvents, AtEnd}
-use Rattle.trace_check.specs.Places.{Begins, Changes, Ends, Finishes, Happens, Heads, Refuses, is_slot_in_use, only_if, place_by}
+use Rattle.trace_check.specs.Places.{Begins, Changes, Ends, Finishes, Happens, Heads, Refuses, is_slot_in_use, only_if, place_by, trace_commands}
 use Rattle.driver_trace.specs.declared.Compared.{Compared}
 use Rattle.driver_trace.specs.Compared.{ShowsBy, ShowsOldOrNewBy}
 use Rattle.driver_trace.specs.Known.{Known, rules_ahead}
@@ -102,6 +102,6 @@ pub command_at : (by : Compared) (slots : ℕ) (place next : Place) (now : Known
     → (n : ℕ) × (k : ℕ) × (next ≡ InBatch n (k + 1)) × IsShownAt by (InBatch n k) now
 command_at by slots AtStart next now there shown = absurd (cc)
 command_at by slots (Between m) next now there shown = absurd (cc)
-command_at by slots (InBatch m k) next now there shown = (m, k, (only (nat_lt k most_commands) (InBatch m (k + 1)) next there).0, shown)
+command_at by slots (InBatch m k) next now there shown = (m, k, (only (nat_lt k trace_commands) (InBatch m (k + 1)) next there).0, shown)
 command_at by slots (InEvents m) next now there shown = absurd (cc)
 command_at by slots AtEnd next now there shown = absurd (cc)

@@ -9,7 +9,7 @@ use driver_trace::DriverLine;
 use trace_check::Place;
 use trace_file::TraceLine;
 
-/// The most commands of a commit (`most_commands` in definitions).
+/// The most commands of a commit (`trace_commands` in definitions).
 const MOST_COMMANDS: u32 = 12_288;
 
 /// What a line is, by which it may stand somewhere.

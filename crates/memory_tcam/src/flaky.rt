@@ -7,6 +7,7 @@ ghost use Rattle.tcam_device.specs.Flight.{writes_in};
 use crate::MemTcam;
 use call_history::Calls;
 use rule_model::{Entry, Key, Rank};
+use slot_order::MOST_SLOTS;
 use std::alloc::{AllocError, Global};
 use std::marker::Model;
 use tcam_device::{Device, DeviceFault, Field, ReadBack, Writable, Write};
@@ -28,11 +29,11 @@ impl<'a> Model for FlakyTcam<'a> {
 }
 
 impl<'a> FlakyTcam<'a> {
-    /// A blank device of 1 to 65,536 slots, with an empty journal, no word in flight and room for no write yet. The
+    /// A blank device of 1 to `MOST_SLOTS` slots, with an empty journal, no word in flight and room for no write yet. The
     /// write calls whose numbers are in `calls` will fail; they are counted from 1, the failing ones too.
     pub fn new(alloc: Global, slots: u32, calls: &'a [u64]) -> Result<FlakyTcam<'a>, AllocError>
         requires least { 0 < slots }
-        requires most { slots ≤ 65536 }
+        requires most { slots ≤ MOST_SLOTS }
         ensures { IfOk result (λ flaky. flaky ≡ record { device = record { slots = slots; events = []; flight = []; spare = 0 }; calls = record { listed = calls.entry.now; made = 0 }; faults = 0 }) }
     {
         Ok(FlakyTcam {

@@ -7,6 +7,7 @@ ghost use Rattle.tcam_device.specs.Flight.{most_in_flight, with_word, search_ans
 use crate::memory::Memory;
 use circular_buffer::HeapCircularBuffer;
 use rule_model::{Entry, Key, Rank, Word};
+use slot_order::MOST_SLOTS;
 use std::alloc::{AllocError, Global};
 use std::marker::Model;
 use tcam_device::{Field, MOST_IN_FLIGHT, Write};
@@ -35,7 +36,7 @@ impl Lookups {
     /// A blank memory of this many slots, no word in flight, and room for no write.
     pub(crate) fn new(alloc: Global, slots: u32) -> Result<Lookups, AllocError>
         requires least { 0 < slots }
-        requires most { slots ≤ 65536 }
+        requires most { slots ≤ MOST_SLOTS }
         ensures { IfOk result (λ lookups. lookups ≡ record { state = blank slots; flight = []; spare = 0 }) }
     {
         Ok(Lookups {

@@ -7,6 +7,7 @@ ghost use Rattle.tcam_device.specs.Flight.{writes_in};
 use crate::log::Log;
 use crate::lookups::Lookups;
 use rule_model::{Entry, Key, Rank};
+use slot_order::MOST_SLOTS;
 use std::alloc::{AllocError, Global};
 use std::marker::Model;
 use tcam_device::{Device, DeviceFault, Field, ReadBack, Writable, Write};
@@ -30,10 +31,10 @@ impl Model for MemTcam {
 }
 
 impl MemTcam {
-    /// A blank device of 1 to 65,536 slots, with an empty journal, no word in flight and room for no write yet.
+    /// A blank device of 1 to `MOST_SLOTS` slots, with an empty journal, no word in flight and room for no write yet.
     pub fn new(alloc: Global, slots: u32) -> Result<MemTcam, AllocError>
         requires least { 0 < slots }
-        requires most { slots ≤ 65536 }
+        requires most { slots ≤ MOST_SLOTS }
         ensures { IfOk result (λ device. device ≡ record { slots = slots; events = []; flight = []; spare = 0 }) }
     {
         Ok(MemTcam {

@@ -9,6 +9,7 @@ ghost use Rattle.tcam_device.specs.Flight.{word_answer};
 use lane_lookup::Columns;
 use port_table::PortTable;
 use rule_model::{Entry, Key, Rank, Word, word_of};
+use slot_order::MOST_SLOTS;
 use std::alloc::{AllocError, Global};
 use std::marker::Model;
 use tcam_device::{Field, Write};
@@ -35,7 +36,7 @@ impl Memory {
     /// Empty slots, this many, tables of words that are 0, and room for no write.
     pub(crate) fn new(alloc: Global, slots: u32) -> Result<Memory, AllocError>
         requires least { 0 < slots }
-        requires most { slots ≤ 65536 }
+        requires most { slots ≤ MOST_SLOTS }
         ensures { IfOk result (λ memory. memory ≡ record { state = blank slots; spare = 0 }) }
     {
         let slots = Columns::new(alloc, slots)?;

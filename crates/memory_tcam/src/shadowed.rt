@@ -7,6 +7,7 @@ ghost use Rattle.memory_tcam.specs.Tcam.{HasPut};
 use crate::lookups::Lookups;
 use call_history::History;
 use rule_model::{Entry, Key, Rank};
+use slot_order::MOST_SLOTS;
 use std::alloc::{AllocError, Global};
 use std::marker::Model;
 use tcam_device::{Action, Device, DeviceFault, Field, Hardware, ReadBack, Writable, Write};
@@ -43,11 +44,11 @@ impl<H: Hardware> Model for Shadowed<H> {
 }
 
 impl<H: Hardware> Shadowed<H> {
-    /// Over blank hardware of 1 to 65,536 slots, with an empty journal, no word in flight and room for no write. Where
+    /// Over blank hardware of 1 to `MOST_SLOTS` slots, with an empty journal, no word in flight and room for no write. Where
     /// memory for the shadow is wanting, the hardware is let go.
     pub fn new(alloc: Global, hardware: H) -> Result<Shadowed<H>, AllocError>
         requires least { 0 < H.slot_count hardware }
-        requires most { H.slot_count hardware ≤ 65536 }
+        requires most { H.slot_count hardware ≤ MOST_SLOTS }
         ensures { IfOk result (λ device. device ≡ record { given = hardware ∷ []; hardware = hardware; slots = H.slot_count hardware; events = []; flight = []; spare = 0; faults = 0 }) }
     {
         let given = History::new().and(&hardware);

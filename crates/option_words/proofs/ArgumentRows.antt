@@ -4,7 +4,7 @@ use Rattle.std.specs.Prelude.{⊤, ◌+◌, min, slice_get, unwrap_or, find, opt
 use Rattle.std.specs.Option.{option_map_or}
 use Rattle.std.specs.Str.{bytes_eq}
 use Rattle.std.proofs.lemmas.Slice.Eq.{bytes_eq-Decides}
-use Rattle.slot_order.specs.Order.{most_slots}
+use Rattle.slot_order.specs.Order.{script_slots}
 use Rattle.clap.specs.ValueTests.{is_unsigned_in}
 use Rattle.clap.specs.Facts.{explicit_source}
 use Rattle.clap.specs.Walk.{Row, Rule, Text, action_of, at_row, default_rows, has_row, more_values, new_count, reading_by, stronger, used, used_as, values_or_missing, with_default, with_values, with_count, without, count_of}
@@ -252,10 +252,10 @@ abbrev pub slots_id : Text
 slots_id = codes "slots"
 
 -- the number of slots
-pub slots-default : (rows : List Row) → Good slots_id 1 most_slots rows → HasNumber slots_id 1 most_slots (with_default rows (filled slots_option)) × Good slots_id 1 most_slots (with_default rows (filled slots_option))
+pub slots-default : (rows : List Row) → Good slots_id 1 script_slots rows → HasNumber slots_id 1 script_slots (with_default rows (filled slots_option)) × Good slots_id 1 script_slots (with_default rows (filled slots_option))
 unfolding slots_option
-slots-default = numbered-default slots_id 1 most_slots (codes "4096") refl
+slots-default = numbered-default slots_id 1 script_slots (codes "4096") refl
 
-pub slots-keep : Keeps (Good slots_id 1 most_slots) (filled slots_option)
+pub slots-keep : Keeps (Good slots_id 1 script_slots) (filled slots_option)
 unfolding slots_option
-slots-keep = numbered-keep slots_id 1 most_slots (codes "4096") refl
+slots-keep = numbered-keep slots_id 1 script_slots (codes "4096") refl

@@ -3,7 +3,7 @@ use Rattle.std.proofs.Common.{◌≡◌, ◌∙◌, false, sym, subst, ap, List,
 use Rattle.std.specs.Prelude.{ℕ, fold}
 use Rattle.std.specs.List.{list_any}
 use Rattle.std.specs.Str.{bytes_eq}
-use Rattle.slot_order.specs.Order.{most_slots}
+use Rattle.slot_order.specs.Order.{script_slots}
 use Rattle.clap.specs.Walk.{Row, Rule, Text, nothing_held, rows_after, with_default}
 use Rattle.clap.specs.Simple.{Shape, filled}
 use Rattle.clap.specs.Faults.{level_fault}
@@ -40,10 +40,10 @@ keep-defaults P [] all rows good = good
 keep-defaults P (a ∷ rest) all rows good = keep-defaults P rest all.1 (with_default rows a) (all.0.by_default rows good)
 
 module _ (s : Shape) (rest : List Rule) (others : AreOthers slots_id rest) (are : s.rules ≡ filled slots_option ∷ rest) (once : s.args_override_self ≡ false) (words : List Text) (none : level_fault s [] nothing_held words false [] ≡ []) where
-  pub script-slots : HasNumber slots_id 1 most_slots (rows_after s.rules [] words)
+  pub script-slots : HasNumber slots_id 1 script_slots (rows_after s.rules [] words)
   script-slots =
-      let keep : AllKeep (Good slots_id 1 most_slots) s.rules =
-      subst (AllKeep (Good slots_id 1 most_slots)) (sym are) (slots-keep, others-keep slots_id 1 most_slots rest others) in
-      let taken = level-taken (Good slots_id 1 most_slots) s keep once tt words none in
-      subst (HasNumber slots_id 1 most_slots) (sym (taken.after ∙ ap (fold with_default taken.rows) are))
-      (has-still slots_id 1 most_slots rest others (with_default taken.rows (filled slots_option)) (slots-default taken.rows taken.good).0)
+      let keep : AllKeep (Good slots_id 1 script_slots) s.rules =
+      subst (AllKeep (Good slots_id 1 script_slots)) (sym are) (slots-keep, others-keep slots_id 1 script_slots rest others) in
+      let taken = level-taken (Good slots_id 1 script_slots) s keep once tt words none in
+      subst (HasNumber slots_id 1 script_slots) (sym (taken.after ∙ ap (fold with_default taken.rows) are))
+      (has-still slots_id 1 script_slots rest others (with_default taken.rows (filled slots_option)) (slots-default taken.rows taken.good).0)

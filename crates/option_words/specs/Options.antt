@@ -2,7 +2,7 @@
 use Rattle.std.specs.Prelude.{ℕ, Bool, Option, Some, None, unwrap_or, List, [], ◌∷◌, true, codes, if◌then◌else◌}
 use Rattle.std.specs.Str.{bytes_eq}
 use Rattle.std.specs.Str.Parse.{digits_value, without_leading_plus}
-use Rattle.slot_order.specs.Order.{most_slots}
+use Rattle.slot_order.specs.Order.{script_slots}
 use Rattle.clap.specs.Walk.{Rule, Row, Text, first_of}
 use Rattle.clap.specs.Simple.{new_rule}
 use Rattle.clap.specs.ValueTests.{is_unsigned_in}
@@ -18,7 +18,7 @@ unfoldable pub slots_option : Rule
 slots_option = record (new_rule (codes "slots")) {
   long = Some (codes "slots");
   action = Some Set;
-  parser = Some (Unsigned 1 most_slots);
+  parser = Some (Unsigned 1 script_slots);
   defaults = codes "4096" ∷ [];
 }
 

@@ -3,6 +3,7 @@ use Rattle.std.proofs.Common.{◌≡◌, ℕ, zero, suc, ◌+◌, ◌-◌, ◌<�
 use Rattle.std.proofs.Math.Seq.{take-append_seam}
 use Rattle.std.proofs.lemmas.Bool.{cases_lt}
 use Rattle.std.proofs.lemmas.List.{length-replicate, get_or-replicate, get_or_append_left, get_or-append_right, map-append}
+use Rattle.slot_order.specs.Order.{most_slots}
 use Rattle.slot_order.proofs.Lists.{contains_none}
 use Rattle.order_chains.specs.declared.node.Node.{Node}
 use Rattle.order_chains.specs.declared.chains.Side.TheVariants.{Below, Above}
@@ -23,7 +24,7 @@ no_lists nx pv owner n = record {
   each = λ p l m. absurd (omega arith);
 }
 
-pub no_chains : (ids : ℕ) → 1 ≤ ids → ids ≤ 65536 → AreChains ids [] (replicate (ids + 1) nil) (replicate ids nil) 0
+pub no_chains : (ids : ℕ) → 1 ≤ ids → ids ≤ most_slots → AreChains ids [] (replicate (ids + 1) nil) (replicate ids nil) 0
 no_chains ids l m = record {
   size = (l, m, omega arith);
   heads = (length-replicate (ids + 1) nil, length-replicate ids nil);

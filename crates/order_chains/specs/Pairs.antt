@@ -1,5 +1,6 @@
 -- The pairs (upper, lower) of an overlap graph, each in a place of its own.
 use Rattle.std.specs.Prelude.{◌≡◌, ◌≢◌, ◌<◌, ◌≤◌, ◌+◌, ℕ, Bool, ◌==◌, ◌||◌, ◌⊎◌, if◌then◌else◌, List, Option, Some, None, Contains, length, is_none, is_some, count_by, slice_index_or, slice_set}
+use Rattle.slot_order.specs.Order.{most_slots}
 use Rattle.order_chains.specs.declared.node.Node.{Node}
 use Rattle.order_chains.specs.declared.chains.Side.TheVariants.{Below, Above}
 use Rattle.order_chains.specs.Nodes.{node_at}
@@ -68,7 +69,7 @@ AreEnds ids upper lower = ((upper ≡ ids) × (lower ≡ ids)) ⊎ ((upper < ids
 -- The nodes are members of the lists of their ends, and free ones of the below list of the number of ids; of the
 -- below lists those below `len` are.
 pub record AreChains (ids : ℕ) (ns : List Node) (below above : List ℕ) (len : ℕ) : Type 0 where
-  pub size : (1 ≤ ids) × (ids ≤ 65536) × (length ns < 4294967296)
+  pub size : (1 ≤ ids) × (ids ≤ most_slots) × (length ns < 4294967296)
   pub heads : (length below ≡ ids + 1) × (length above ≡ ids)
   pub downs : AreLists (next_at Below ns) (back_at Below ns) (upper_at ns) below len
   pub ups : AreLists (next_at Above ns) (back_at Above ns) (lower_at ns) above (length ns)

@@ -19,8 +19,9 @@
 //! A node takes 24 bytes, an id 8. To link two ids takes the same time whatever is there; an id goes in the time of its
 //! pairs, and its partners are named in that time too. Growth copies the block, which doubles as long as its places are
 //! numbers of 32 bits. The worst list, each entry over each other, has n (n - 1) / 2 pairs: 12 bytes times n squared,
-//! 51 GB at 65,536 entries, where a scan takes none. The block may have room for twice as many, and a growth has the
-//! old block beside the new one.
+//! 201 MB at 4,096 entries and 51 GB at 65,536, where a scan takes none. The block may have room for twice as many, and a
+//! growth has the old block beside the new one. At 92,682 entries such a list has more pairs than places have numbers:
+//! what overlaps so much finds no room there, whatever memory there is.
 //!
 //! # What isn't promised
 //! Any order of the ids that are named. Room is never given back before the whole is; and that it is then no clause can
@@ -47,11 +48,12 @@ mod raw;
 use block::Block;
 use chains::{NIL, Side};
 pub use partners::Partners;
+use slot_order::MOST_SLOTS;
 use std::alloc::{AllocError, Global};
 use std::marker::Model;
 
 /// The greatest number of ids.
-pub const MOST_IDS: u32 = 65_536;
+pub const MOST_IDS: u32 = MOST_SLOTS;
 
 /// Pairs (upper, lower) of different ids below a number, no pair twice.
 #[derive(Drop)]

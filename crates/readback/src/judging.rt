@@ -68,7 +68,7 @@ fn check_bits(field: Field, rules: &Store, batch: &Batch) -> Result<(), Rejectio
 fn check_slots(rules: &Store, batch: &Batch, slots: u32, mode: Mode) -> Result<(), Rejection>
     ensures { result ≡ judgement (verdicts.slots_verdict slots mode rules.now.rules batch.now) }
 {
-    // A batch has 12,288 commands at most, and a set fewer rules than 2 ^ 32, so the numbers fit.
+    // A batch has `BATCH_COMMANDS` at most, and a set fewer rules than 2 ^ 32, so the numbers fit.
     let _commands = batch.len();
     let _rules = rules.len();
     let need = rules.entries_added(mode, batch);

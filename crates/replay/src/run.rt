@@ -66,7 +66,7 @@ impl Model for Run {
 }
 
 impl Run {
-    /// A run before its first act, over a blank device with so many slots in use, 1 to 4,096: no rules, no probe, and
+    /// A run before its first act, over a blank device with so many slots in use, 1 to `MOST_SLOTS`: no rules, no probe, and
     /// no change pending. The mode says how port ranges are tested, and each insertion aims where the placement says.
     /// With a trace each write of a commit has its line. The words of the probes are searched a depth of writes after
     /// the one that they were made behind, at most 15. In JSON the report has the lines of a trace file of the family's

@@ -56,7 +56,7 @@ impl Model for Router {
 }
 
 impl Router {
-    /// A router before its first act, over two blank devices with so many slots in use of each, 1 to 4,096: no rules, and no
+    /// A router before its first act, over two blank devices with so many slots in use of each, 1 to `MOST_SLOTS`: no rules, and no
     /// change pending. The mode says how port ranges are tested, and the placement where an insertion of either table aims. Of
     /// the version of IP are the routes that it takes, and by it the report names rules. With a trace each part that is made of
     /// a device has a line, and each drain. It fails only for want of memory.

@@ -1,7 +1,7 @@
 -- What some command lines ask for, by computation.
 use Rattle.std.proofs.Common.{◌≡◌, [], ◌∷◌, true, false, refl}
 use Rattle.std.specs.Prelude.{⊤, codes}
-use Rattle.slot_order.specs.Order.{most_slots}
+use Rattle.slot_order.specs.Order.{script_slots}
 use Rattle.clap.proofs.OnLiterals.{clap_on_literals}
 use Rattle.rule_model.specs.declared.IpVersion.TheVariants.{V4, V6}
 use Rattle.rule_store.specs.declared.Mode.TheVariants.{Cover, Bits}
@@ -15,7 +15,7 @@ unfoldable the_declaration : ⊤
 unfolding clap_on_literals router_line router_top router_app slots_option ranges_option placement_option trace_flag
 the_declaration = tt
 
-plain : router_job (codes "tcam" ∷ codes "router" ∷ []) ≡ Routes V4 most_slots Cover Middle false
+plain : router_job (codes "tcam" ∷ codes "router" ∷ []) ≡ Routes V4 script_slots Cover Middle false
 unfolding the_declaration
 plain = refl
 
@@ -23,7 +23,7 @@ some-slots : router_job (codes "tcam" ∷ codes "router" ∷ codes "--slots" ∷
 unfolding the_declaration
 some-slots = refl
 
-in-bits : router_job (codes "tcam" ∷ codes "router" ∷ codes "--ranges=bits" ∷ codes "--placement" ∷ codes "rank" ∷ []) ≡ Routes V4 most_slots Bits Rank false
+in-bits : router_job (codes "tcam" ∷ codes "router" ∷ codes "--ranges=bits" ∷ codes "--placement" ∷ codes "rank" ∷ []) ≡ Routes V4 script_slots Bits Rank false
 unfolding the_declaration
 in-bits = refl
 

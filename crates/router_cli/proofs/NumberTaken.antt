@@ -1,6 +1,6 @@
 -- Where clap finds no fault, the number of slots is in its range, and the test of it passes.
 use Rattle.std.proofs.Common.{◌≡◌, Bool, cond, refl, sym, ap, List, [], ◌∷◌, Option, Some, None}
-use Rattle.slot_order.specs.Order.{most_slots}
+use Rattle.slot_order.specs.Order.{script_slots}
 use Rattle.rule_model.specs.declared.IpVersion.{IpVersion}
 use Rattle.rule_model.specs.declared.IpVersion.TheVariants.{V4, V6}
 use Rattle.clap.specs.Walk.{Row, Rule, Text, rows_after}
@@ -13,7 +13,7 @@ use Rattle.option_words.proofs.Defaults.{script-slots}
 use Rattle.router_cli.specs.CommandLine.{router_job_of_rows, router_job_of, router_app, router_line, router_top, routes_by}
 use Rattle.router_cli.specs.Asked.{tested_at, tested_router_job, tested_router_rows}
 
-by-test : (version : IpVersion) (rows : List Row) → HasNumber slots_id 1 most_slots rows → routes_by version rows ≡ tested_at version (number_given 1 most_slots slots_id rows) rows
+by-test : (version : IpVersion) (rows : List Row) → HasNumber slots_id 1 script_slots rows → routes_by version rows ≡ tested_at version (number_given 1 script_slots slots_id rows) rows
 by-test version rows slots = sym (ap (λ (b : Bool). tested_at version (cond b (Some (number_of slots_id rows)) None) rows) slots)
 
 -- what stands behind --slots

@@ -1,7 +1,7 @@
 -- What the calls that read a command line answer: words that only their contracts need.
 use Rattle.std.specs.Prelude.{ℕ, ◌≤◌, Option, Some, None, List, codes, if◌then◌else◌}
 use Rattle.std.specs.Str.{bytes_eq}
-use Rattle.slot_order.specs.Order.{most_slots}
+use Rattle.slot_order.specs.Order.{script_slots}
 use Rattle.clap.specs.Walk.{Row, Text}
 use Rattle.rule_model.specs.declared.IpVersion.{IpVersion}
 use Rattle.rule_model.specs.declared.IpVersion.TheVariants.{V4, V6}
@@ -20,8 +20,8 @@ tested_at version (Some slots) rows = routes_at version slots (mode_in (text_of 
 -- passes, and the two are one
 abbrev pub tested_router_rows : Text → List Row → RouterJob
 tested_router_rows name rows =
-    if bytes_eq name (codes "router") then tested_at V4 (number_given 1 most_slots (codes "slots") rows) rows
-    else if bytes_eq name (codes "router6") then tested_at V6 (number_given 1 most_slots (codes "slots") rows) rows
+    if bytes_eq name (codes "router") then tested_at V4 (number_given 1 script_slots (codes "slots") rows) rows
+    else if bytes_eq name (codes "router6") then tested_at V6 (number_given 1 script_slots (codes "slots") rows) rows
     else NoJob
 
 abbrev pub tested_router_job : Option (Text × List Row) → RouterJob
@@ -35,5 +35,5 @@ router_asked_by asked.Help = Tells router_help
 
 -- the number of slots of an answer is in its range
 abbrev pub IsRouterAskedInRange : RouterAsked → Type 0
-IsRouterAskedInRange (asked.Script version slots mode placement trace) = (1 ≤ slots) × (slots ≤ most_slots)
+IsRouterAskedInRange (asked.Script version slots mode placement trace) = (1 ≤ slots) × (slots ≤ script_slots)
 IsRouterAskedInRange asked.Help = Unit {0}

@@ -3,7 +3,7 @@
 ghost use Rattle.std.specs.Prelude.{◌≡◌, Err, IfOk, IsErrOf, IfSome, IsNone, codes, false, map, string_bytes};
 ghost use Rattle.clap.specs.Words.{app_of, rows_of, found_of, subcommand_rows_of, kind_of};
 ghost use Rattle.clap.specs.declared.builder.command.Command.TheViews.{out-Command};
-ghost use Rattle.slot_order.specs.Order.{most_slots};
+ghost use Rattle.slot_order.specs.Order.{script_slots};
 ghost use Rattle.option_words.specs.Options.{number_given};
 ghost use Rattle.router_cli.specs.CommandLine.{NoJob, router_job_of_fault, router_app, router_job, router_line};
 ghost use Rattle.router_cli.specs.Asked.{IsRouterAskedInRange, router_asked_by, tested_at, tested_router_job};
@@ -15,7 +15,7 @@ use option_words::{
     slots_arg, text_of, trace_arg,
 };
 use rule_model::IpVersion;
-use slot_order::MOST_SLOTS;
+use slot_order::SCRIPT_SLOTS;
 use std::alloc::{AllocError, Global};
 
 /// What a command line asks for.
@@ -97,13 +97,13 @@ fn job_of_matches(matches: &ArgMatches) -> Option<RouterAsked>
 
 /// The job of the arguments of the subcommand for scripts of this version.
 fn job_of_script(version: IpVersion, found: &ArgMatches) -> Option<RouterAsked>
-    ensures asked { IfSome result (λ job. tested_at version (number_given 1 most_slots (codes "slots") (rows_of (found_of found.now))) (rows_of (found_of found.now)) ≡ router_asked_by job) }
-    ensures none { IsNone result → tested_at version (number_given 1 most_slots (codes "slots") (rows_of (found_of found.now))) (rows_of (found_of found.now)) ≡ NoJob }
+    ensures asked { IfSome result (λ job. tested_at version (number_given 1 script_slots (codes "slots") (rows_of (found_of found.now))) (rows_of (found_of found.now)) ≡ router_asked_by job) }
+    ensures none { IsNone result → tested_at version (number_given 1 script_slots (codes "slots") (rows_of (found_of found.now))) (rows_of (found_of found.now)) ≡ NoJob }
     ensures within { IfSome result IsRouterAskedInRange }
 {
     Some(RouterAsked::Script {
         version,
-        slots: number_of(text_of(found, "slots"), 1, MOST_SLOTS)?,
+        slots: number_of(text_of(found, "slots"), 1, SCRIPT_SLOTS)?,
         mode: mode_named(text_of(found, "ranges"))?,
         placement: placement_of(text_of(found, "placement"))?,
         trace: text_of(found, "trace") == "true",

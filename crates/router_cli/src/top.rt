@@ -18,7 +18,7 @@ use router::Router;
 use router_runs::run_router_script;
 use script_lines::{Failed, Sink, Source};
 use script_runs::Status;
-use slot_order::MOST_SLOTS;
+use slot_order::SCRIPT_SLOTS;
 use split_device::SplitDevice;
 use std::alloc::Global;
 
@@ -47,7 +47,7 @@ pub fn run_router<S: Source, K: Sink, D: SplitDevice>(
     list: &mut D,
     routes: &mut D,
 ) -> Status
-    requires slots { (MOST_SLOTS ≤ D.slot_count list.old) × (MOST_SLOTS ≤ D.slot_count routes.old) }
+    requires slots { (SCRIPT_SLOTS ≤ D.slot_count list.old) × (SCRIPT_SLOTS ≤ D.slot_count routes.old) }
     requires blank { (D.events list.old ≡ []) × (D.events routes.old ≡ []) }
     requires none_in_flight { (D.flight list.old ≡ no_flight) × (D.flight routes.old ≡ no_flight) }
     ensures carried_out { IsRouterJobCarriedOut (router_job (map (λ w. string_bytes w) words.now)) (slots_of (D.slot_count list.old) (D.slot_count routes.old)) result

@@ -7,6 +7,7 @@ ghost use Rattle.rule_store.specs.Naming as naming;
 
 use crate::Command;
 use rule_model::{Rank, rule_conditions};
+use slot_order::MOST_SLOTS;
 use std::alloc::{AllocError, Global};
 use std::collections::BTreeMap;
 use std::marker::Model;
@@ -16,7 +17,7 @@ use thiserror::Error;
 pub const PENDING_COMMANDS: u32 = 4096;
 
 /// The most commands of a batch (`most_commands` in definitions).
-pub const BATCH_COMMANDS: u32 = 12288;
+pub const BATCH_COMMANDS: u32 = MOST_SLOTS + 2 * PENDING_COMMANDS;
 
 /// Why a batch doesn't take a command.
 #[derive(Clone, Copy, Debug, PartialEq, Eq, Error)]
@@ -56,7 +57,7 @@ pub(crate) struct Named {
     pub(crate) naming: Naming,
 }
 
-/// Commands in the order in which they came: 4,096 that wait for a commit, or 12,288 to which changes were settled.
+/// Commands in the order in which they came: 4,096 that wait for a commit, or `BATCH_COMMANDS` to which changes were settled.
 #[derive(Drop)]
 pub struct Batch {
     commands: Vec<Named>,
@@ -96,7 +97,7 @@ impl Model for Commands {
 }
 
 impl Commands {
-    /// How many there are, 12,288 at most.
+    /// How many there are, `BATCH_COMMANDS` at most.
     pub(crate) fn len(&self) -> u32
         ensures count { result ≡ length self.now }
         ensures most { result ≤ BATCH_COMMANDS }
@@ -171,7 +172,7 @@ impl Batch {
         self.push_settled(command)
     }
 
-    /// Puts a command behind the others, of those to which changes are settled. `Full` comes exactly at 12,288 commands; after
+    /// Puts a command behind the others, of those to which changes are settled. `Full` comes exactly at `BATCH_COMMANDS`; after
     /// a refusal the batch is as before.
     pub fn push_settled(&mut self, command: Command) -> Result<(), PushFault>
         ensures pushed { OnOk result (self.new ≡ self.old ++ command ∷ []) }
@@ -199,7 +200,7 @@ impl Batch {
         Ok(())
     }
 
-    /// How many commands there are, 12,288 at most.
+    /// How many commands there are, `BATCH_COMMANDS` at most.
     pub fn len(&self) -> u32
         ensures count { result ≡ length self.now }
         ensures most { result ≤ BATCH_COMMANDS }

@@ -2,6 +2,7 @@
 use Rattle.std.proofs.Common.{◌≡◌, ℕ, ◌+◌, ◌*◌, ◌≤◌, Bool, true, false, List, [], ◌∷◌, ◌++◌, Option, Some, None, length, map, filter, not, take, slice_get, nat_eq, nat_lt, if◌then◌else◌, refl, ap, ◌∙◌, sym, subst, arith}
 use Rattle.std.proofs.lemmas.List.{length-append, length-map, map-append}
 use Rattle.std.proofs.lemmas.List.Filters.{length-filter_both}
+use Rattle.slot_order.specs.Order.{most_slots}
 use Rattle.rule_model.specs.declared.Rule.{Rule}
 use Rattle.rule_model.specs.RuleSet.{has_priority, rule_at}
 use Rattle.rule_store.specs.declared.Command.{Command}
@@ -108,10 +109,10 @@ unfolding weigh weight
 drops-weigh [] = refl
 drops-weigh (rule ∷ gone) = let more = drops-weigh gone in omega arith
 
--- what makes a set the one that requests make of none fits a batch
-pub whole_fits : (rules : List Rule) (requests : List Request) (whole : List Rule) → whole ≡ asked_set [] requests → length rules ≤ most_pending → length requests ≤ most_pending
-    → length (settled rules (whole_requests rules whole)) ≤ most_commands
-whole_fits rules requests whole made few short =
+-- what makes a set the one that requests make of none is two commands for each of them at most, and one for each old rule
+pub whole_few : (rules : List Rule) (requests : List Request) (whole : List Rule) → whole ≡ asked_set [] requests
+    → length (settled rules (whole_requests rules whole)) ≤ 2 * length requests + length rules
+whole_few rules requests whole made =
     let bound = asked-few [] requests in
     let short_set : length (asked_set [] requests) ≤ length requests = omega arith in
     let new : length whole ≤ length requests = subst (λ some. length some ≤ length requests) (sym made) short_set in
@@ -122,3 +123,8 @@ whole_fits rules requests whole made few short =
     let puts = puts-weigh whole in
     let drops = drops-weigh gone in
     omega arith
+
+-- so it fits a batch
+pub whole_fits : (rules : List Rule) (requests : List Request) (whole : List Rule) → whole ≡ asked_set [] requests → length rules ≤ most_slots → length requests ≤ most_pending
+    → length (settled rules (whole_requests rules whole)) ≤ most_commands
+whole_fits rules requests whole made few short = let all = whole_few rules requests whole made in omega arith

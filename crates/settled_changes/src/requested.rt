@@ -6,6 +6,7 @@ ghost use Rattle.settled_changes.specs.Requested.{IsAsked, IsWhyNone, TakesAsked
 
 use crate::{Request, Requests, SettleFault, settle, settle_all};
 use rule_store::{Batch, Command, PENDING_COMMANDS, PushFault, Store};
+use slot_order::MOST_SLOTS;
 use std::alloc::{AllocError, Global};
 
 /// Changes that are settled over the set before they are judged. While there are some, no command stands in the batch.
@@ -91,11 +92,11 @@ impl Requested {
         }
     }
 
-    /// The batch that what is asked for comes to over a set of 4,096 rules at most; something is. It is sound over the set,
+    /// The batch that what is asked for comes to over a set of `MOST_SLOTS` rules at most; something is. It is sound over the set,
     /// and fails as `settle` and `settle_all` do.
     pub fn settle(&self, alloc: Global, rules: &Store) -> Result<Batch, SettleFault>
         requires asked { IsAsked self.now }
-        requires few { length rules.now.rules ≤ most_pending }
+        requires few { length rules.now.rules ≤ MOST_SLOTS }
         ensures settled { (commands : List Command) → IfOk result (λ batch. batch ≡ settled_batch rules.now.rules commands self.now) }
         ensures taken { OnOk result (TakesAsked rules.now.rules self.now) }
         ensures sound { IfOk result (λ batch. IsSound rules.now.rules batch) }

@@ -1,7 +1,7 @@
 //! The batch that requests, or a whole new set, come to over a set.
 
 ghost use Rattle.std.specs.Prelude.{◌≡◌, ◌++◌, ◌<◌, ◌≤◌, [], length, not, IfOk, IfErr, OnOk, Err};
-ghost use Rattle.rule_store.specs.Batch.{IsSound, most_commands, most_pending, set_after};
+ghost use Rattle.rule_store.specs.Batch.{IsSound, most_commands, set_after};
 ghost use Rattle.settled_changes.specs.Requests.{AreTaken, asked_set};
 ghost use Rattle.settled_changes.specs.Settled.{IsWhyNoSet, IsWhyUnsettled, settled, puts_of, drops_of, whole_requests};
 
@@ -10,6 +10,7 @@ use crate::faults::first_fault;
 use crate::requests::no_command;
 use crate::{Request, Requests, SettleFault};
 use rule_store::{Batch, Command, PushFault, Store};
+use slot_order::MOST_SLOTS;
 use std::alloc::{AllocError, Global};
 use std::collections::VecDeque;
 
@@ -44,7 +45,7 @@ pub fn settle(alloc: Global, rules: &Store, requests: &Requests) -> Result<Batch
 
 /// The batch that makes a set of rules exactly another one: rules that the new set lacks go, equal ones stay untouched, and
 /// others get another result or are replaced. It is sound over this set. `Full` comes exactly where that takes more than
-/// 12,288 commands, two for a rule that is replaced. Both sets stay as they are.
+/// `BATCH_COMMANDS`, two for a rule that is replaced. Both sets stay as they are.
 pub fn settle_whole(alloc: Global, rules: &Store, whole: &Store) -> Result<Batch, PushFault>
     ensures settled { IfOk result (λ batch. batch ≡ settled rules.now.rules (whole_requests rules.now.rules whole.now.rules)) }
     ensures sound { IfOk result (λ batch. IsSound rules.now.rules batch) }
@@ -59,13 +60,13 @@ pub fn settle_whole(alloc: Global, rules: &Store, whole: &Store) -> Result<Batch
     }
 }
 
-/// The batch that makes a set of 4,096 rules at most exactly what requests make of no rules at all, one after the other: a
+/// The batch that makes a set of `MOST_SLOTS` rules at most exactly what requests make of no rules at all, one after the other: a
 /// whole new set, of which a strict addition of a rule that an earlier one added fails, and so does a change or a removal of
 /// one that none did. It is sound over the set of rules. `Unsound` names the first request that fails so, and there is room
 /// for the batch. Rules and requests stay as they are.
 #[tactic(auto, using(crate::proofs::OverNone::whole_fits))]
 pub fn settle_all(alloc: Global, rules: &Store, requests: &Requests) -> Result<Batch, SettleFault>
-    requires few { length rules.now.rules ≤ most_pending }
+    requires few { length rules.now.rules ≤ MOST_SLOTS }
     ensures settled { IfOk result (λ batch. batch ≡ settled rules.now.rules (whole_requests rules.now.rules (asked_set [] requests.now))) }
     ensures taken { OnOk result (AreTaken [] requests.now) }
     ensures sound { IfOk result (λ batch. IsSound rules.now.rules batch) }

@@ -3,7 +3,7 @@ use Rattle.std.proofs.Common.{◌≡◌, ◌≢◌, ℕ, true, zero, suc, ◌+�
 use Rattle.std.specs.Prelude.{cond, slice_index_or}
 use Rattle.std.proofs.lemmas.Bool.{cases_eq, eq-eqb, eqb-true, false_from_ne_true}
 use Rattle.std.proofs.lemmas.List.{get_or-replicate, get_or-set_other, get_or-set_same, length-replicate}
-use Rattle.slot_order.specs.Order.{slot}
+use Rattle.slot_order.specs.Order.{slot, most_slots}
 use Rattle.slot_pool.specs.Arrangement.{Slots, passes}
 use Rattle.slot_pool.specs.Homes.{AreSums, IsFirstOf, place_of, sum_from, sum_of}
 
@@ -67,14 +67,14 @@ only_other slots at id sum is past holds =
     (omega arith, holds, λ k from before also. let two = two_in_sum id 0 slots k sum before also holds in absurd (omega arith))
 
 -- sums of few slots are small
-small_from : (id from : ℕ) (slots : Slots) → from + length slots ≤ 65536 → sum_from id from slots ≤ 65535 * length slots
+small_from : (id from : ℕ) (slots : Slots) → from + length slots ≤ most_slots → sum_from id from slots ≤ most_slots * length slots
 small_from id from [] few = omega arith
 small_from id from (first ∷ slots) few =
     let here = place_most id from first in
     let rest = small_from id (suc from) slots (omega arith) in
     omega arith
 
-pub sums_few : (slots : Slots) (at id : ℕ) → length slots ≤ 65536 → at < length slots → slot slots at ≡ None → sum_of slots id + at < 2 ^ 32
+pub sums_few : (slots : Slots) (at id : ℕ) → length slots ≤ most_slots → at < length slots → slot slots at ≡ None → sum_of slots id + at < 2 ^ 64
 sums_few slots at id few inside free =
     let e = changed id 0 slots at (Some id) inside in
     let f : place_of id (0 + at) (slot slots at) ≡ 0 = ap (place_of id (0 + at)) free in

@@ -1,12 +1,13 @@
 //! Words of bits in a flat row, 64 places a word: a search passes 64 places with no bit at a step.
-ghost use Rattle.std.specs.Prelude.{◌≡◌, ℕ, ◌*◌, ◌≤◌, length};
+ghost use Rattle.std.specs.Prelude.{◌≡◌, ℕ, ◌+◌, ◌*◌, ◌<◌, ◌≤◌, length};
 ghost use Rattle.slot_pool.specs.Flat.{IsNextMarked, IsLastMarked};
 
+use slot_order::MOST_SLOTS;
 use word_tree::words::{highest, lowest};
 
 /// The least place from `from` on and before `to` whose bit is 1.
 pub(crate) fn next_marked(words: &[u64], from: u32, to: u32) -> Option<u32>
-    requires most { length words.now ≤ 1024 }
+    requires most { length words.now * 64 < MOST_SLOTS + 64 }
     requires to { to ≤ length words.now * 64 }
     ensures { IsNextMarked words.now from to result }
 {
@@ -23,7 +24,7 @@ pub(crate) fn next_marked(words: &[u64], from: u32, to: u32) -> Option<u32>
 
 /// The greatest place from `from` on and before `to` whose bit is 1.
 pub(crate) fn last_marked(words: &[u64], from: u32, to: u32) -> Option<u32>
-    requires most { length words.now ≤ 1024 }
+    requires most { length words.now * 64 < MOST_SLOTS + 64 }
     requires to { to ≤ length words.now * 64 }
     ensures { IsLastMarked words.now from to result }
 {

@@ -5,10 +5,11 @@ ghost use Rattle.slot_pool.specs.Arrangement.{passes};
 ghost use Rattle.slot_pool.specs.Homes.{IsFirstOf, AreHomes, AreSums, earlier, sum_of};
 
 use crate::sums;
+use slot_order::MOST_SLOTS;
 
 /// The least slot from a place on that holds an id.
 pub(crate) fn first_of(slots: &[Option<u32>], from: u32, id: u32) -> Option<u32>
-    requires few { length slots.now ≤ 65536 }
+    requires few { length slots.now ≤ MOST_SLOTS }
     ensures { IsFirstOf slots.now from id result }
 {
     for slot in from..slots.len() as u32 {
@@ -23,11 +24,11 @@ pub(crate) fn first_of(slots: &[Option<u32>], from: u32, id: u32) -> Option<u32>
 pub(crate) fn put(
     slots: &mut [Option<u32>],
     homes: &mut [Option<u32>],
-    sums: &mut [u32],
+    sums: &mut [u64],
     slot: u32,
     id: u32,
 )
-    requires few { length slots.old ≤ 65536 }
+    requires few { length slots.old ≤ MOST_SLOTS }
     requires place { slot < length slots.old }
     requires free { held_in slots.old slot ≡ None }
     requires homes { AreHomes slots.old homes.old }
@@ -48,10 +49,10 @@ pub(crate) fn put(
 pub(crate) fn erase(
     slots: &mut [Option<u32>],
     homes: &mut [Option<u32>],
-    sums: &mut [u32],
+    sums: &mut [u64],
     slot: u32,
 )
-    requires few { length slots.old ≤ 65536 }
+    requires few { length slots.old ≤ MOST_SLOTS }
     requires place { slot < length slots.old }
     requires homes { AreHomes slots.old homes.old }
     requires sums { AreSums slots.old sums.old }
@@ -74,8 +75,8 @@ pub(crate) fn erase(
 }
 
 /// The least slot behind one that holds an id, by the sum of all that hold it. Where one alone does it is that sum.
-fn next_home(slots: &[Option<u32>], slot: u32, id: u32, sum: u32) -> Option<u32>
-    requires few { length slots.now ≤ 65536 }
+fn next_home(slots: &[Option<u32>], slot: u32, id: u32, sum: u64) -> Option<u32>
+    requires few { length slots.now ≤ MOST_SLOTS }
     requires place { slot < length slots.now }
     requires sum { sum ≡ sum_of slots.now id }
     ensures { IsFirstOf slots.now (slot + 1) id result }
@@ -83,8 +84,8 @@ fn next_home(slots: &[Option<u32>], slot: u32, id: u32, sum: u32) -> Option<u32>
     if sum == 0 {
         return None;
     }
-    if sum > slot && (sum as usize) < slots.len() && holds(slots[sum as usize], id) {
-        return Some(sum);
+    if sum > slot as u64 && (sum as usize) < slots.len() && holds(slots[sum as usize], id) {
+        return Some(sum as u32);
     }
     first_of(slots, slot + 1, id)
 }

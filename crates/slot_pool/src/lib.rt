@@ -33,12 +33,13 @@ mod mark_row;
 mod sums;
 
 pub use mark_row::Marks;
+use slot_order::MOST_SLOTS;
 use std::alloc::{AllocError, Global};
 use std::marker::Model;
 use word_tree::Members;
 
 /// The most slots of an arrangement, and the most places of a row of marks.
-pub const MOST_PLACES: u32 = 65_536;
+pub const MOST_PLACES: u32 = MOST_SLOTS;
 
 /// Slots, each empty or holding an id.
 #[derive(Debug, Drop)]
@@ -47,13 +48,14 @@ pub struct Arrangement {
     // The least slot of each id below the number of slots.
     homes: Vec<Option<u32>>,
     // The sum of the slots that hold each of these ids.
-    sums: Vec<u32>,
+    sums: Vec<u64>,
     // Which slots are empty.
     free: Members,
 }
 
 impl Model for Arrangement {
     ghost use Rattle.std.specs.Prelude.{◌≡◌, ◌≤◌, length, map, is_none};
+    ghost use Rattle.slot_order.specs.Order.{most_slots};
     ghost use Rattle.slot_pool.specs.Arrangement.{Slots};
     ghost use Rattle.slot_pool.specs.Homes.{AreHomes, AreSums};
 
@@ -61,7 +63,7 @@ impl Model for Arrangement {
 
     ghost view = { λ a. a.slots.items };
 
-    ghost invariant = { λ a. (1 ≤ length a.slots.items) × (length a.slots.items ≤ 65536) × AreHomes a.slots.items a.homes.items × (a.free ≡ map (λ held. is_none held) a.slots.items) × AreSums a.slots.items a.sums.items };
+    ghost invariant = { λ a. (1 ≤ length a.slots.items) × (length a.slots.items ≤ most_slots) × AreHomes a.slots.items a.homes.items × (a.free ≡ map (λ held. is_none held) a.slots.items) × AreSums a.slots.items a.sums.items };
 }
 
 impl Arrangement {

@@ -17,14 +17,15 @@ pub struct Marks {
 }
 
 impl Model for Marks {
-    ghost use Rattle.std.specs.Prelude.{ℕ, ◌*◌, ◌≤◌, Bool, List, length};
+    ghost use Rattle.std.specs.Prelude.{ℕ, ◌+◌, ◌*◌, ◌<◌, ◌≤◌, Bool, List, length};
+    ghost use Rattle.slot_order.specs.Order.{most_slots};
     ghost use Rattle.word_tree.specs.Marks.{marks_of};
 
     ghost Value = { List Bool };
 
     ghost view = { λ m. marks_of m.words.items 0 m.places };
 
-    ghost invariant = { λ m. (m.places ≤ 65536) × (m.places ≤ length m.words.items * 64) × (length m.words.items ≤ 1024) };
+    ghost invariant = { λ m. (m.places ≤ most_slots) × (m.places ≤ length m.words.items * 64) × (length m.words.items * 64 < most_slots + 64) };
 }
 
 impl Marks {

@@ -6,6 +6,7 @@ ghost use Rattle.tcam_device.specs.State.{search_word};
 
 use crate::SplitWrite;
 use rule_model::{Entry, Field, Key, Rank, Word, hits, word_of};
+use slot_order::MOST_SLOTS;
 use std::alloc::{AllocError, Global};
 use std::marker::Model;
 
@@ -39,7 +40,7 @@ impl Memory {
     /// Empty slots, this many, blank result words, and tables of words that are 0.
     pub(crate) fn new(alloc: Global, slots: u32) -> Result<Memory, AllocError>
         requires least { 0 < slots }
-        requires most { slots ≤ 65536 }
+        requires most { slots ≤ MOST_SLOTS }
         ensures { IfOk result (λ memory. memory ≡ blank_split slots) }
     {
         let n = slots as usize;
@@ -116,7 +117,7 @@ fn empty_slots(alloc: Global, n: usize) -> Result<Vec<Option<(Word, Word)>>, All
 
 /// The least of some slots that hits a word.
 fn first_of(slots: &[Option<(Word, Word)>], word: &Word) -> Option<u32>
-    requires { length slots.now ≤ 65536 }
+    requires { length slots.now ≤ MOST_SLOTS }
     ensures { result ≡ spec.hit_slot slots.now word.now }
 {
     for (slot, parts) in slots.iter().enumerate() {

@@ -7,6 +7,7 @@ ghost use Rattle.split_device.specs.Flight.{flight_count, no_flight, oldest_read
 use crate::memory::Memory;
 use circular_buffer::HeapCircularBuffer;
 use rule_model::{Key, Rank, Word};
+use slot_order::MOST_SLOTS;
 use split_device::SplitWrite;
 use std::alloc::{AllocError, Global};
 use std::marker::Model;
@@ -35,7 +36,7 @@ impl Lookups {
     /// A blank memory of this many slots, with nothing in flight, and room for no write.
     pub(crate) fn new(alloc: Global, slots: u32) -> Result<Lookups, AllocError>
         requires least { 0 < slots }
-        requires most { slots ≤ 65536 }
+        requires most { slots ≤ MOST_SLOTS }
         ensures { IfOk result (λ lookups. lookups ≡ record { state = blank_split slots; flight = no_flight; spare = 0 }) }
     {
         Ok(Lookups {

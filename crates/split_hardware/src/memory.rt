@@ -8,6 +8,7 @@ ghost use Rattle.split_hardware.specs.Shadow.{half};
 use lane_lookup::Columns;
 use port_table::PortTable;
 use rule_model::{Entry, Key, Rank, Word, word_of};
+use slot_order::MOST_SLOTS;
 use split_device::SplitWrite;
 use std::alloc::{AllocError, Global};
 use std::marker::Model;
@@ -41,7 +42,7 @@ impl Memory {
     /// Empty slots, this many, blank result words, tables of words that are 0, and room for no write.
     pub(crate) fn new(alloc: Global, slots: u32) -> Result<Memory, AllocError>
         requires least { 0 < slots }
-        requires most { slots ≤ 65536 }
+        requires most { slots ≤ MOST_SLOTS }
         ensures { IfOk result (λ memory. memory ≡ record { state = blank_split slots; spare = 0 }) }
     {
         let results = Vec::from_elem(alloc, (LEAST, 0), slots as usize)?;

@@ -7,6 +7,7 @@ use crate::hardware::SplitHardware;
 use crate::lookups::Lookups;
 use call_history::History;
 use rule_model::{Key, Rank};
+use slot_order::MOST_SLOTS;
 use split_device::{SplitAction, SplitDevice, SplitWrite};
 use std::alloc::{AllocError, Global};
 use std::marker::Model;
@@ -44,11 +45,11 @@ impl<H: SplitHardware> Model for SplitShadowed<H> {
 }
 
 impl<H: SplitHardware> SplitShadowed<H> {
-    /// Over blank hardware of 1 to 65,536 slots, with no event yet, nothing in flight and room for no write. Where memory
+    /// Over blank hardware of 1 to `MOST_SLOTS` slots, with no event yet, nothing in flight and room for no write. Where memory
     /// for the shadow is wanting, the hardware is let go.
     pub fn new(alloc: Global, hardware: H) -> Result<SplitShadowed<H>, AllocError>
         requires least { 0 < H.slot_count hardware }
-        requires most { H.slot_count hardware ≤ 65536 }
+        requires most { H.slot_count hardware ≤ MOST_SLOTS }
         ensures { IfOk result (λ device. device ≡ record { given = hardware ∷ []; hardware = hardware; slots = H.slot_count hardware; events = []; flight = spec.no_flight; spare = 0; faults = 0 }) }
     {
         let given = History::new().and(&hardware);

@@ -69,7 +69,7 @@ impl Model for SplitManager {
 }
 
 impl SplitManager {
-    /// A manager of a blank device with so many slots in use, 1 to 4,096, and no rules, as `batch_order::Manager::new` makes
+    /// A manager of a blank device with so many slots in use, 1 to `MOST_SLOTS`, and no rules, as `batch_order::Manager::new` makes
     /// one. From here on nobody else may write the device.
     pub fn new(
         alloc: Global,

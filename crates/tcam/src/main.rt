@@ -3,6 +3,8 @@
 //! `draw`, where it is `explain`, `explain_cli`'s `explain`, where it is `import`, `import_cli`'s `run_import`, and where
 //! it is `judge`, `judge_cli`'s `run_judge`.
 //!
+//! An import may name a file by `--since`, the one file that the program opens, and gets what stands in it.
+//!
 //! What these six promise is proved; of these few lines nothing is said. What std's reader and writer do with the files is
 //! trusted.
 //!
@@ -15,7 +17,7 @@
 mod modelled;
 
 use explain_cli::explain;
-use import_cli::run_import;
+use import_cli::{Asked, read_words, run_import};
 use judge_cli::run_judge;
 use memory_tcam::Shadowed;
 use modelled::Modelled;
@@ -24,8 +26,8 @@ use script_lines::{ReadFrom, Sink, Source, WriteTo};
 use split_hardware::SplitShadowed;
 use std::alloc::AllocError;
 use std::env::{self, Env};
-use std::io;
 use std::process::ExitCode;
+use std::{fs, io};
 use tcam_cli::{Status, run};
 use trace_draw::draw;
 
@@ -62,11 +64,48 @@ fn run_process(rt: &HostRuntime) -> Result<Status, AllocError> {
     match subcommand(words.as_slice()) {
         "draw" => Ok(draw(rt.alloc(), words.as_slice(), &mut source, &mut sink)),
         "explain" => Ok(explain(rt.alloc(), words.as_slice(), &mut source, &mut sink)),
-        "import" => Ok(run_import(rt.alloc(), words.as_slice(), &mut source, &mut sink)),
+        "import" => run_on_file(rt, words.as_slice(), &mut source, &mut sink),
         "judge" => Ok(run_judge(rt.alloc(), words.as_slice(), &mut source, &mut sink)),
         "router" | "router6" => run_on_two(rt, words.as_slice(), &mut source, &mut sink),
         _ => run_on_device(rt, words.as_slice(), &mut source, &mut sink),
     }
+}
+
+/// The file that words name by `--since`, if they do.
+fn since_file(words: &[String]) -> Option<&str> {
+    for place in 0..words.len() {
+        let word = words[place].as_str();
+        if word == "--since" {
+            return words.get(place + 1).map(|next| next.as_str());
+        }
+        if let Some(file) = word.strip_prefix("--since=") {
+            return Some(file);
+        }
+    }
+    None
+}
+
+/// Runs the words of an import over a source and a sink, and what stands in the file that they name, if they are such words.
+fn run_on_file<S: Source, K: Sink>(
+    rt: &HostRuntime,
+    words: &[String],
+    source: &mut S,
+    sink: &mut K,
+) -> Result<Status, AllocError> {
+    let mut older = Vec::new(rt.alloc());
+    if let (Ok(Asked::Import { .. }), Some(file)) = (
+        read_words(rt.alloc(), words),
+        since_file(words),
+    ) {
+        match fs::read(rt, file) {
+            Ok(bytes) => older = bytes,
+            Err(error) => match error.kind() {
+                io::ErrorKind::OutOfMemory => return Err(AllocError),
+                _ => return Ok(Status::ReadFault),
+            },
+        }
+    }
+    Ok(run_import(rt.alloc(), words, older.as_slice(), source, sink))
 }
 
 /// Runs words over a source, a sink and a blank device in memory. Its journal is for proofs alone, and takes no memory.

@@ -1,9 +1,9 @@
 //! The hardware that the program drives.
 
 ghost use Rattle.std.specs.Prelude.{IsOk};
-ghost use Rattle.slot_order.specs.Order.{most_slots};
+ghost use Rattle.slot_order.specs.Order.{script_slots};
 
-use slot_order::MOST_SLOTS;
+use slot_order::SCRIPT_SLOTS;
 use split_device::SplitWrite;
 use split_hardware::SplitHardware;
 use tcam_device::{DeviceFault, Hardware, Write};
@@ -21,7 +21,7 @@ impl Modelled {
 }
 
 impl Hardware for Modelled {
-    ghost slot_count = { λ m. most_slots };
+    ghost slot_count = { λ m. script_slots };
 
     // No write fails.
     ghost puts = { λ before write answer after. IsOk answer };
@@ -29,7 +29,7 @@ impl Hardware for Modelled {
     ghost drains = { λ before after. Unit {0} };
 
     fn slots(&self) -> u32 {
-        MOST_SLOTS
+        SCRIPT_SLOTS
     }
 
     fn put(&mut self, _write: &Write) -> Result<(), DeviceFault> {
@@ -40,7 +40,7 @@ impl Hardware for Modelled {
 }
 
 impl SplitHardware for Modelled {
-    ghost slot_count = { λ m. most_slots };
+    ghost slot_count = { λ m. script_slots };
 
     // No write fails.
     ghost puts = { λ before write answer after. IsOk answer };
@@ -48,7 +48,7 @@ impl SplitHardware for Modelled {
     ghost drains = { λ before after. Unit {0} };
 
     fn slots(&self) -> u32 {
-        MOST_SLOTS
+        SCRIPT_SLOTS
     }
 
     fn put(&mut self, _write: &SplitWrite) -> Result<(), DeviceFault> {

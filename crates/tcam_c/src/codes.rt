@@ -13,7 +13,7 @@ pub const OK: u32 = 0;
 pub const NO_MANAGER: u32 = 1;
 /// The handle has a manager already.
 pub const MADE_ALREADY: u32 = 2;
-/// There are 1 to 4,096 slots.
+/// There are 1 to 1,048,576 slots.
 pub const SLOTS_RANGE: u32 = 3;
 /// A mode is 0 or 1.
 pub const NO_MODE: u32 = 4;

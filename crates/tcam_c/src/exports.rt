@@ -24,7 +24,7 @@ use rule_store::Command;
 use slot_order::MOST_SLOTS;
 use std::alloc::{AllocError, Global};
 
-/// Makes a manager of a blank memory with so many slots, 1 to 4,096, and no rules. Mode 0 cuts port ranges by covers, 1
+/// Makes a manager of a blank memory with so many slots, 1 to 1,048,576, and no rules. Mode 0 cuts port ranges by covers, 1
 /// by bits; placement 0 aims at the middle of a gap, 1 at the slot of a rule's rank. A handle that has a manager stays
 /// as it is, and so does one for which an argument is wrong or memory is wanting.
 #[unsafe(no_mangle)]

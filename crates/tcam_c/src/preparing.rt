@@ -1,7 +1,7 @@
 //! How the batch in hand is judged and planned.
 
 ghost use Rattle.std.specs.Prelude.{◌≡◌, ◌≤◌, [], IfErr, IfOk, OnErr, OnOk, length};
-ghost use Rattle.rule_store.specs.Batch.{IsSound, most_pending, set_after};
+ghost use Rattle.rule_store.specs.Batch.{IsSound, set_after};
 ghost use Rattle.settled_changes.specs.Requests.{AreTaken, asked_set};
 ghost use Rattle.settled_changes.specs.Settled.{IsWhyNoSet, settled, whole_requests};
 ghost use Rattle.tcam_c.specs.InHand.{PreparesAll, PreparesAsked, held_of_table, refusal_of_settling, requests_in};
@@ -12,6 +12,7 @@ use crate::table::Table;
 use batch_order::{Refusal, Rejection};
 use rule_store::{Batch, Store};
 use settled_changes::{Requests, SettleFault, settle, settle_all};
+use slot_order::MOST_SLOTS;
 use std::alloc::{AllocError, Global};
 
 /// Has requests settled, and what they come to judged and planned.
@@ -54,7 +55,7 @@ pub(crate) fn prepare_all(
 
 /// The batch that leads a set of rules to what the changes of a batch make of no rules.
 fn whole_batch(alloc: Global, rules: &Store, batch: &PendingBatch) -> Result<Batch, SettleFault>
-    requires few { length rules.now.rules ≤ most_pending }
+    requires few { length rules.now.rules ≤ MOST_SLOTS }
     ensures settled { IfOk result (λ made. made ≡ settled rules.now.rules (whole_requests rules.now.rules (asked_set [] (requests_in batch.now)))) }
     ensures taken { OnOk result (AreTaken [] (requests_in batch.now)) }
     ensures sound { IfOk result (λ made. IsSound rules.now.rules made) }

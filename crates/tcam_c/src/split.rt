@@ -6,7 +6,6 @@ ghost use Rattle.split_order.specs.Left.{state_on};
 ghost use Rattle.split_order.specs.Managed.{fresh_split};
 ghost use Rattle.split_order.specs.Prepared.{JudgesSplit};
 ghost use Rattle.rule_model.specs.RuleSet.{IsRuleSet};
-ghost use Rattle.rule_store.specs.Batch.{most_pending};
 ghost use Rattle.rule_chains.specs.Chains.{IsLongestChain};
 ghost use Rattle.tcam_c.specs.Driven.{IsDue, KeepsLive};
 ghost use Rattle.tcam_c.specs.Tables.{slots_left};
@@ -159,10 +158,10 @@ impl SplitTable {
         longest_chain(alloc, self.manager.rules())
     }
 
-    /// The rules of the set, 4,096 at most; while a commit is under way, those of the old set.
+    /// The rules of the set, `MOST_SLOTS` at most; while a commit is under way, those of the old set.
     pub(crate) fn rules(&self) -> &Store
         ensures rules { result.now.rules ≡ self.now.whole.rules }
-        ensures few { length self.now.whole.rules ≤ most_pending }
+        ensures few { length self.now.whole.rules ≤ MOST_SLOTS }
     {
         self.manager.rules()
     }

@@ -2,7 +2,6 @@
 
 ghost use Rattle.std.specs.Prelude.{◌≡◌, ◌≤◌, ◌<◌, ◌+◌, ◌^◌, IfOk, IsSome, OnErr, OnOk, is_some, length, option_map, slice_get};
 ghost use Rattle.rule_model.specs.RuleSet.{IsRuleSet};
-ghost use Rattle.rule_store.specs.Batch.{most_pending};
 ghost use Rattle.rule_chains.specs.Chains.{IsLongestChain};
 ghost use Rattle.tcam_c.specs.Driven.{IsDue};
 ghost use Rattle.tcam_c.specs.InHand.{held_of_table};
@@ -155,10 +154,10 @@ impl Table {
         }
     }
 
-    /// The rules of the set, 4,096 at most; while a commit is under way, those of the old set.
+    /// The rules of the set, `MOST_SLOTS` at most; while a commit is under way, those of the old set.
     pub(crate) fn rules(&self) -> &Store
         ensures rules { result.now.rules ≡ rules_of_table self.now }
-        ensures few { length (rules_of_table self.now) ≤ most_pending }
+        ensures few { length (rules_of_table self.now) ≤ MOST_SLOTS }
     {
         match self {
             Table::Whole(table) => table.rules(),

@@ -8,7 +8,6 @@ ghost use Rattle.batch_order.specs.Managed.{Judges, Serves};
 ghost use Rattle.batch_order.specs.CarriedOut.{GoesForward, writes_left};
 ghost use Rattle.batch_order.specs.Steps.{ServesNow};
 ghost use Rattle.rule_model.specs.RuleSet.{IsRuleSet};
-ghost use Rattle.rule_store.specs.Batch.{most_pending};
 ghost use Rattle.rule_chains.specs.Chains.{IsLongestChain};
 ghost use Rattle.tcam_c.specs.Tables.{slots_left};
 ghost use Rattle.tcam_c.specs.Restart.{IsUnused};
@@ -160,10 +159,10 @@ impl WholeTable {
         longest_chain(alloc, self.manager.rules())
     }
 
-    /// The rules of the set, 4,096 at most; while a commit is under way, those of the old set.
+    /// The rules of the set, `MOST_SLOTS` at most; while a commit is under way, those of the old set.
     pub(crate) fn rules(&self) -> &Store
         ensures rules { result.now.rules ≡ self.now.manager.rules }
-        ensures few { length self.now.manager.rules ≤ most_pending }
+        ensures few { length self.now.manager.rules ≤ MOST_SLOTS }
     {
         self.manager.rules()
     }

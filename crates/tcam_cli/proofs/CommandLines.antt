@@ -1,7 +1,7 @@
 -- What some command lines ask for, by computation.
 use Rattle.std.proofs.Common.{◌≡◌, true, false, None, Some, [], ◌∷◌, refl}
 use Rattle.std.specs.Prelude.{⊤, codes}
-use Rattle.slot_order.specs.Order.{most_slots}
+use Rattle.slot_order.specs.Order.{script_slots}
 use Rattle.clap.proofs.OnLiterals.{clap_on_literals}
 use Rattle.rule_store.specs.declared.Mode.TheVariants.{Cover, Bits}
 use Rattle.batch_order.specs.declared.Placement.TheVariants.{Middle, Rank}
@@ -29,11 +29,11 @@ no-slots : job_of (codes "tcam" ∷ codes "route" ∷ codes "--slots" ∷ codes 
 unfolding the_declaration
 no-slots = refl
 
-too-many-slots : job_of (codes "tcam" ∷ codes "route" ∷ codes "--slots" ∷ codes "(1 + most_slots)" ∷ []) ≡ NoJob
+too-many-slots : job_of (codes "tcam" ∷ codes "route" ∷ codes "--slots" ∷ codes "4097" ∷ []) ≡ NoJob
 unfolding the_declaration
 too-many-slots = refl
 
-routes : job_of (codes "tcam" ∷ codes "route" ∷ []) ≡ Reads (script_setting Route most_slots Cover Middle false 0 false false false)
+routes : job_of (codes "tcam" ∷ codes "route" ∷ []) ≡ Reads (script_setting Route script_slots Cover Middle false 0 false false false)
 unfolding the_declaration
 routes = refl
 
@@ -45,7 +45,7 @@ routes-of-six : job_of (codes "tcam" ∷ codes "route6" ∷ codes "--trace" ∷ 
 unfolding the_declaration
 routes-of-six = refl
 
-lists-of-six : job_of (codes "tcam" ∷ codes "acl6" ∷ codes "--ranges" ∷ codes "bits" ∷ codes "--placement" ∷ codes "rank" ∷ []) ≡ Reads (script_setting Acl6 most_slots Bits Rank false 0 false false false)
+lists-of-six : job_of (codes "tcam" ∷ codes "acl6" ∷ codes "--ranges" ∷ codes "bits" ∷ codes "--placement" ∷ codes "rank" ∷ []) ≡ Reads (script_setting Acl6 script_slots Bits Rank false 0 false false false)
 unfolding the_declaration
 lists-of-six = refl
 
@@ -93,7 +93,7 @@ plus : job_of (codes "tcam" ∷ codes "route" ∷ codes "--slots" ∷ codes "+00
 unfolding the_declaration
 plus = refl
 
-lists : job_of (codes "tcam" ∷ codes "acl" ∷ []) ≡ Reads (script_setting Acl most_slots Cover Middle false 0 false false false)
+lists : job_of (codes "tcam" ∷ codes "acl" ∷ []) ≡ Reads (script_setting Acl script_slots Cover Middle false 0 false false false)
 unfolding the_declaration
 lists = refl
 
@@ -121,7 +121,7 @@ named : job_of (codes "tcam" ∷ codes "route" ∷ codes "--names" ∷ codes "--
 unfolding the_declaration
 named = refl
 
-named-lists : job_of (codes "tcam" ∷ codes "acl6" ∷ codes "--names" ∷ []) ≡ Reads (script_setting Acl6 most_slots Cover Middle false 0 false true false)
+named-lists : job_of (codes "tcam" ∷ codes "acl6" ∷ codes "--names" ∷ []) ≡ Reads (script_setting Acl6 script_slots Cover Middle false 0 false true false)
 unfolding the_declaration
 named-lists = refl
 
@@ -137,11 +137,11 @@ in-json : job_of (codes "tcam" ∷ codes "route" ∷ codes "--slots" ∷ codes "
 unfolding the_declaration
 in-json = refl
 
-lists-in-json : job_of (codes "tcam" ∷ codes "acl" ∷ codes "--json" ∷ codes "--ranges" ∷ codes "bits" ∷ []) ≡ Reads (script_setting Acl most_slots Bits Middle false 0 true false false)
+lists-in-json : job_of (codes "tcam" ∷ codes "acl" ∷ codes "--json" ∷ codes "--ranges" ∷ codes "bits" ∷ []) ≡ Reads (script_setting Acl script_slots Bits Middle false 0 true false false)
 unfolding the_declaration
 lists-in-json = refl
 
-json-of-six : job_of (codes "tcam" ∷ codes "route6" ∷ codes "--json" ∷ []) ≡ Reads (script_setting Route6 most_slots Cover Middle false 0 true false false)
+json-of-six : job_of (codes "tcam" ∷ codes "route6" ∷ codes "--json" ∷ []) ≡ Reads (script_setting Route6 script_slots Cover Middle false 0 true false false)
 unfolding the_declaration
 json-of-six = refl
 
@@ -149,15 +149,15 @@ traced-by-a-value : job_of (codes "tcam" ∷ codes "route" ∷ codes "--trace=tr
 unfolding the_declaration
 traced-by-a-value = refl
 
-traced-lists : job_of (codes "tcam" ∷ codes "acl" ∷ codes "--trace" ∷ []) ≡ Reads (script_setting Acl most_slots Cover Middle true 0 false false false)
+traced-lists : job_of (codes "tcam" ∷ codes "acl" ∷ codes "--trace" ∷ []) ≡ Reads (script_setting Acl script_slots Cover Middle true 0 false false false)
 unfolding the_declaration
 traced-lists = refl
 
-by-rank : job_of (codes "tcam" ∷ codes "route" ∷ codes "--placement" ∷ codes "rank" ∷ []) ≡ Reads (script_setting Route most_slots Cover Rank false 0 false false false)
+by-rank : job_of (codes "tcam" ∷ codes "route" ∷ codes "--placement" ∷ codes "rank" ∷ []) ≡ Reads (script_setting Route script_slots Cover Rank false 0 false false false)
 unfolding the_declaration
 by-rank = refl
 
-by-the-middle : job_of (codes "tcam" ∷ codes "route" ∷ codes "--placement" ∷ codes "middle" ∷ []) ≡ Reads (script_setting Route most_slots Cover Middle false 0 false false false)
+by-the-middle : job_of (codes "tcam" ∷ codes "route" ∷ codes "--placement" ∷ codes "middle" ∷ []) ≡ Reads (script_setting Route script_slots Cover Middle false 0 false false false)
 unfolding the_declaration
 by-the-middle = refl
 
@@ -193,7 +193,7 @@ by-two-words-at-once : job_of (codes "tcam" ∷ codes "acl" ∷ codes "--placeme
 unfolding the_declaration
 by-two-words-at-once = refl
 
-made : job_of (codes "tcam" ∷ codes "gen" ∷ codes "1" ∷ codes "1" ∷ codes "2" ∷ []) ≡ Makes (script_setting Acl most_slots Cover Middle false 0 false false false) 1 1 2
+made : job_of (codes "tcam" ∷ codes "gen" ∷ codes "1" ∷ codes "1" ∷ codes "2" ∷ []) ≡ Makes (script_setting Acl script_slots Cover Middle false 0 false false false) 1 1 2
 unfolding the_declaration
 made = refl
 
@@ -201,7 +201,7 @@ made-in-few-slots : job_of (codes "tcam" ∷ codes "gen" ∷ codes "1" ∷ codes
 unfolding the_declaration
 made-in-few-slots = refl
 
-made-of-the-greatest-seed : job_of (codes "tcam" ∷ codes "gen" ∷ codes "2147483647" ∷ codes "1" ∷ codes "1" ∷ []) ≡ Makes (script_setting Acl most_slots Cover Middle false 0 false false false) 2147483647 1 1
+made-of-the-greatest-seed : job_of (codes "tcam" ∷ codes "gen" ∷ codes "2147483647" ∷ codes "1" ∷ codes "1" ∷ []) ≡ Makes (script_setting Acl script_slots Cover Middle false 0 false false false) 2147483647 1 1
 unfolding the_declaration
 made-of-the-greatest-seed = refl
 
@@ -253,11 +253,11 @@ made-with-a-trace : job_of (codes "tcam" ∷ codes "gen" ∷ codes "1" ∷ codes
 unfolding the_declaration
 made-with-a-trace = refl
 
-made-in-bits : job_of (codes "tcam" ∷ codes "gen" ∷ codes "1" ∷ codes "1" ∷ codes "1" ∷ codes "--ranges" ∷ codes "bits" ∷ []) ≡ Makes (script_setting Acl most_slots Bits Middle false 0 false false false) 1 1 1
+made-in-bits : job_of (codes "tcam" ∷ codes "gen" ∷ codes "1" ∷ codes "1" ∷ codes "1" ∷ codes "--ranges" ∷ codes "bits" ∷ []) ≡ Makes (script_setting Acl script_slots Bits Middle false 0 false false false) 1 1 1
 unfolding the_declaration
 made-in-bits = refl
 
-lists-in-bits : job_of (codes "tcam" ∷ codes "acl" ∷ codes "--ranges" ∷ codes "bits" ∷ []) ≡ Reads (script_setting Acl most_slots Bits Middle false 0 false false false)
+lists-in-bits : job_of (codes "tcam" ∷ codes "acl" ∷ codes "--ranges" ∷ codes "bits" ∷ []) ≡ Reads (script_setting Acl script_slots Bits Middle false 0 false false false)
 unfolding the_declaration
 lists-in-bits = refl
 
@@ -265,7 +265,7 @@ lists-in-bits-by-rank : job_of (codes "tcam" ∷ codes "acl" ∷ codes "--placem
 unfolding the_declaration
 lists-in-bits-by-rank = refl
 
-deep : job_of (codes "tcam" ∷ codes "route6" ∷ codes "--depth" ∷ codes "15" ∷ []) ≡ Reads (script_setting Route6 most_slots Cover Middle false 15 false false false)
+deep : job_of (codes "tcam" ∷ codes "route6" ∷ codes "--depth" ∷ codes "15" ∷ []) ≡ Reads (script_setting Route6 script_slots Cover Middle false 15 false false false)
 unfolding the_declaration
 deep = refl
 
@@ -277,7 +277,7 @@ made-in-depth : job_of (codes "tcam" ∷ codes "gen" ∷ codes "1" ∷ codes "1"
 unfolding the_declaration
 made-in-depth = refl
 
-lists-in-covers : job_of (codes "tcam" ∷ codes "acl" ∷ codes "--ranges" ∷ codes "cover" ∷ []) ≡ Reads (script_setting Acl most_slots Cover Middle false 0 false false false)
+lists-in-covers : job_of (codes "tcam" ∷ codes "acl" ∷ codes "--ranges" ∷ codes "cover" ∷ []) ≡ Reads (script_setting Acl script_slots Cover Middle false 0 false false false)
 unfolding the_declaration
 lists-in-covers = refl
 

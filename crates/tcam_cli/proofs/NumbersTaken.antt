@@ -3,7 +3,7 @@ use Rattle.std.proofs.Common.{◌≡◌, ◌∙◌, ◌&&◌, ℕ, Bool, cond, t
 use Rattle.std.specs.Prelude.{fold}
 use Rattle.std.specs.List.{list_any}
 use Rattle.std.proofs.lemmas.List.Sums.{fold-append}
-use Rattle.slot_order.specs.Order.{most_slots}
+use Rattle.slot_order.specs.Order.{script_slots}
 use Rattle.clap.specs.ValueTests.{is_unsigned_in}
 use Rattle.clap.specs.Takes.{is_given}
 use Rattle.clap.specs.Walk.{Row, Rule, Text, nothing_held, rows_after, with_default}
@@ -40,7 +40,7 @@ read_by family rows slots depth =
     job_by (cond slots (Some (number_of slots_id rows)) None) (λ s.
     job_by (cond depth (Some (number_of depth_id rows)) None) (λ d. job_at family s (mode_wanted family rows) (placed_by rows) (is_traced rows) d (is_json rows) (is_named rows) (parted_by rows)))
 
-script-tested : (family : Family) (rows : List Row) → HasNumber slots_id 1 most_slots rows → HasNumber depth_id 0 15 rows → script_by family rows ≡ tested_script family rows
+script-tested : (family : Family) (rows : List Row) → HasNumber slots_id 1 script_slots rows → HasNumber depth_id 0 15 rows → script_by family rows ≡ tested_script family rows
 script-tested family rows slots depth =
     sym (ap (λ b. read_by family rows b (is_unsigned_in 0 15 (text_of depth_id rows))) slots ∙ ap (λ b. read_by family rows true b) depth)
 
@@ -61,7 +61,7 @@ made_by rows slots seed rules batches =
     job_by (cond rules (Some (number_of rules_id rows)) None) (λ r.
     job_by (cond batches (Some (number_of batches_id rows)) None) (λ b. made_at s (mode_wanted Acl rows) (placed_by rows) d r b))))
 
-made-tested : (rows : List Row) → HasNumber slots_id 1 most_slots rows → HasNumber seed_id 0 2147483647 rows → HasNumber rules_id 1 256 rows → HasNumber batches_id 1 64 rows
+made-tested : (rows : List Row) → HasNumber slots_id 1 script_slots rows → HasNumber seed_id 0 2147483647 rows → HasNumber rules_id 1 256 rows → HasNumber batches_id 1 64 rows
     → made_at (number_of slots_id rows) (mode_wanted Acl rows) (placed_by rows) (number_of seed_id rows) (number_of rules_id rows) (number_of batches_id rows) ≡ tested_made rows
 made-tested rows slots seed rules batches =
     sym (ap (λ b. made_by rows b (is_unsigned_in 0 2147483647 (text_of seed_id rows)) (is_unsigned_in 1 256 (text_of rules_id rows)) (is_unsigned_in 1 64 (text_of batches_id rows))) slots
@@ -170,16 +170,16 @@ module _ (s : Shape) (are : s.rules ≡ gen_rules) (once : s.args_override_self 
         ),
       ) in
       let front : List Rule = position 1 seed_id 0 2147483647 ∷ position 2 rules_id 1 256 ∷ position 3 batches_id 1 64 ∷ [] in
-      let ahead : AllKeep (Good slots_id 1 most_slots) front = others-keep _ _ _ front refl in
-      let slots : AllKeep (Good slots_id 1 most_slots) gen_rules =
+      let ahead : AllKeep (Good slots_id 1 script_slots) front = others-keep _ _ _ front refl in
+      let slots : AllKeep (Good slots_id 1 script_slots) gen_rules =
       (ahead.0, (ahead.1.0, (ahead.1.1.0, (slots-keep, others-keep _ _ _ made_rest refl)))) in
       let given = gen-given seed_id 0 2147483647 seed in
-      let taken = gen-taken slots_id 1 most_slots slots in
+      let taken = gen-taken slots_id 1 script_slots slots in
       let before = fold with_default taken.rows front in
-      let good = keep-defaults (Good slots_id 1 most_slots) front ahead taken.rows taken.good in
-      let has : HasNumber slots_id 1 most_slots (rows_after s.rules [] words) =
-      subst (HasNumber slots_id 1 most_slots) (sym (taken.after ∙ ap (fold with_default taken.rows) are))
-      (has-still slots_id 1 most_slots made_rest refl (with_default before (filled slots_option)) (slots-default before good).0) in
+      let good = keep-defaults (Good slots_id 1 script_slots) front ahead taken.rows taken.good in
+      let has : HasNumber slots_id 1 script_slots (rows_after s.rules [] words) =
+      subst (HasNumber slots_id 1 script_slots) (sym (taken.after ∙ ap (fold with_default taken.rows) are))
+      (has-still slots_id 1 script_slots made_rest refl (with_default before (filled slots_option)) (slots-default before good).0) in
       made-tested (rows_after s.rules [] words) has (gen-number seed_id 0 2147483647 seed given.seed) (gen-number rules_id 1 256 rules given.rules) (gen-number batches_id 1 64 batches given.batches)
 
 -- ---- the program

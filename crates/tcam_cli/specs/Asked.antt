@@ -1,7 +1,7 @@
 -- What the calls that read a command line answer: words that only their contracts need.
 use Rattle.std.specs.Prelude.{ℕ, ◌≡◌, ◌≤◌, Option, Some, None, List, true, false, codes, if◌then◌else◌}
 use Rattle.std.specs.Str.{bytes_eq}
-use Rattle.slot_order.specs.Order.{most_slots}
+use Rattle.slot_order.specs.Order.{script_slots}
 use Rattle.clap.specs.Walk.{Row, Text}
 use Rattle.report_lines.specs.declared.Family.{Family}
 use Rattle.report_lines.specs.declared.Family.TheVariants.{Route, Acl, Route6, Acl6}
@@ -21,12 +21,12 @@ job_by (Some number) job = job number
 -- the words the tests pass, and the two are one
 abbrev pub tested_script : Family → List Row → Job
 tested_script family rows =
-    job_by (number_given 1 most_slots (codes "slots") rows) (λ slots.
+    job_by (number_given 1 script_slots (codes "slots") rows) (λ slots.
     job_by (number_given 0 15 (codes "depth") rows) (λ depth. job_at family slots (mode_wanted family rows) (placed_by rows) (is_traced rows) depth (is_json rows) (is_named rows) (parted_by rows)))
 
 abbrev pub tested_made : List Row → Job
 tested_made rows =
-    job_by (number_given 1 most_slots (codes "slots") rows) (λ slots.
+    job_by (number_given 1 script_slots (codes "slots") rows) (λ slots.
     job_by (number_given 0 2147483647 (codes "seed") rows) (λ seed.
     job_by (number_given 1 256 (codes "rules") rows) (λ rules.
     job_by (number_given 1 64 (codes "batches") rows) (λ batches.
@@ -58,7 +58,7 @@ asked_by asked.Version = Tells Version
 -- the numbers of made commands are in their ranges
 pub record AreMadeNumbers (slots seed rules batches : ℕ) : Type 0 where
   pub some_slots : 1 ≤ slots
-  pub most_slots : slots ≤ most_slots
+  pub script_slots : slots ≤ script_slots
   pub seed_fits : seed ≤ 2147483647
   pub some_rules : 1 ≤ rules
   pub most_rules : rules ≤ 256
@@ -68,7 +68,7 @@ pub record AreMadeNumbers (slots seed rules batches : ℕ) : Type 0 where
 -- the numbers of an answer are in their ranges
 abbrev pub IsInRange : Asked → Type 0
 IsInRange (asked.Script family slots mode placement trace depth json names parts) =
-    (1 ≤ slots) × (slots ≤ most_slots) × (depth ≤ 15)
+    (1 ≤ slots) × (slots ≤ script_slots) × (depth ≤ 15)
 IsInRange (asked.Made slots mode placement seed rules batches) = AreMadeNumbers slots seed rules batches
 IsInRange asked.Verify = Unit {0}
 IsInRange (asked.Help topic) = Unit {0}

@@ -15,7 +15,7 @@ use option_words::{
     slots_arg, text_of, trace_arg,
 };
 use replay::{Family, Mode, Placement};
-use slot_order::MOST_SLOTS;
+use slot_order::SCRIPT_SLOTS;
 use std::alloc::{AllocError, Global};
 
 /// What a command line asks for.
@@ -220,7 +220,7 @@ fn job_of_script(family: Family, found: &ArgMatches) -> Option<Asked>
 {
     Some(Asked::Script {
         family,
-        slots: number_of(text_of(found, "slots"), 1, MOST_SLOTS)?,
+        slots: number_of(text_of(found, "slots"), 1, SCRIPT_SLOTS)?,
         mode: mode_of(family, found)?,
         placement: placement_of(text_of(found, "placement"))?,
         trace: text_of(found, "trace") == "true",
@@ -249,7 +249,7 @@ fn job_of_made(found: &ArgMatches) -> Option<Asked>
     ensures within { IfSome result IsInRange }
 {
     Some(Asked::Made {
-        slots: number_of(text_of(found, "slots"), 1, MOST_SLOTS)?,
+        slots: number_of(text_of(found, "slots"), 1, SCRIPT_SLOTS)?,
         seed: number_of(text_of(found, "seed"), 0, 2147483647)?,
         rules: number_of(text_of(found, "rules"), 1, 256)?,
         batches: number_of(text_of(found, "batches"), 1, 64)?,

@@ -43,7 +43,7 @@ use rule_model::{IpVersion, Prefix, list_rank};
 use rule_store::Command;
 use script_lines::{Failed, Line, LineFault, Lines, Sink, Source};
 use settled_changes::Request;
-use slot_order::MOST_SLOTS;
+use slot_order::SCRIPT_SLOTS;
 use std::alloc::Global;
 use tcam_device::ReadBack;
 
@@ -88,7 +88,7 @@ pub fn run<S: Source, K: Sink, D: ReadBack>(
     sink: &mut K,
     device: &mut D,
 ) -> Status
-    requires slots { MOST_SLOTS ≤ (D.view device.old).slots }
+    requires slots { SCRIPT_SLOTS ≤ (D.view device.old).slots }
     requires blank { (D.view device.old).events ≡ [] }
     requires none_in_flight { (D.view device.old).flight ≡ [] }
     ensures carried_out { IsCarriedOut (job_of (map (λ w. string_bytes w) words.now)) (D.view device.old).slots result

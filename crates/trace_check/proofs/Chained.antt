@@ -1,7 +1,7 @@
 -- The commits of a trace follow one another, and every write of it is one of theirs.
 use Rattle.std.proofs.Common.{◌≡◌, ℕ, ◌+◌, Bool, true, false, List, [], ◌∷◌, ◌++◌, Option, None, Some, refl, sym, ap, ◌∙◌, subst, append_assoc}
 use Rattle.std.specs.Prelude.{flat_map, nat_eq, nat_lt}
-use Rattle.rule_store.specs.Batch.{set_after, most_commands}
+use Rattle.rule_store.specs.Batch.{set_after}
 use Rattle.tcam_device.specs.declared.Write.{Write}
 use Rattle.tcam_device.specs.declared.Write.TheVariants as write
 use Rattle.tcam_device.specs.State.{State, apply, state_after}
@@ -10,7 +10,7 @@ use Rattle.trace_file.specs.declared.TraceLine.{TraceLine}
 use Rattle.trace_file.specs.declared.TraceLine.TheVariants.{Head, Commit, Add, Set, Del, Put, Erase, Table, Drain, Done, Refused, End, Fault}
 use Rattle.trace_check.specs.declared.places.Place.{Place}
 use Rattle.trace_check.specs.declared.places.Place.TheVariants.{AtStart, Between, InBatch, InEvents, AtEnd}
-use Rattle.trace_check.specs.Places.{Heads, Begins, Changes, Happens, Finishes, Refuses, Ends, only_if, is_slot_in_use, place_by}
+use Rattle.trace_check.specs.Places.{Heads, Begins, Changes, Happens, Finishes, Refuses, Ends, only_if, is_slot_in_use, place_by, trace_commands}
 use Rattle.trace_check.specs.Orderly.{Tracing, untraced, traced_on, Follow}
 use Rattle.trace_check.specs.Hitless.{TracedCommit, commits_in, trace_writes, Chain, TracesAreCommits}
 
@@ -87,7 +87,7 @@ record IsCommand (place next : Place) (now : Tracing) : Type 0 where
 commands : (slots : ℕ) (place next : Place) (now : Tracing) → place_by slots place Changes ≡ Some next → Stands place now → IsCommand place next now
 commands slots AtStart next now there stands = absurd stands
 commands slots (Between m) next now there stands = absurd (cc)
-commands slots (InBatch m k) next now there stands = record { commit = m; count = k; place_is = refl; next_is = only (nat_lt k most_commands) (InBatch m (k + 1)) next there }
+commands slots (InBatch m k) next now there stands = record { commit = m; count = k; place_is = refl; next_is = only (nat_lt k trace_commands) (InBatch m (k + 1)) next there }
 commands slots (InEvents m) next now there stands = absurd (cc)
 commands slots AtEnd next now there stands = absurd (cc)
 

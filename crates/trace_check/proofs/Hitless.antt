@@ -11,7 +11,7 @@ use Rattle.rule_model.specs.RuleSet.{IsRuleSet}
 use Rattle.rule_store.specs.declared.Mode.{Mode}
 use Rattle.rule_store.specs.declared.Command.{Command}
 use Rattle.rule_store.specs.declared.Command.TheVariants as change
-use Rattle.rule_store.specs.Batch.{ChangesRules, set_after, most_commands}
+use Rattle.rule_store.specs.Batch.{ChangesRules, set_after}
 use Rattle.rule_store.specs.Verdict.{Accepted, verdict}
 use Rattle.tcam_device.specs.declared.Write.{Write}
 use Rattle.tcam_device.specs.declared.Write.TheVariants as write
@@ -32,7 +32,7 @@ use Rattle.readback.proofs.Begun.{change_of}
 use Rattle.readback.proofs.Stages.{stages_answer, last_stages_answer}
 use Rattle.trace_check.specs.declared.places.Place.{Place}
 use Rattle.trace_check.specs.declared.places.Place.TheVariants.{AtStart, Between, InBatch, InEvents, AtEnd}
-use Rattle.trace_check.specs.Places.{Heads, Begins, Changes, Happens, Finishes, Refuses, Ends, only_if, is_slot_in_use, place_by}
+use Rattle.trace_check.specs.Places.{Heads, Begins, Changes, Happens, Finishes, Refuses, Ends, only_if, is_slot_in_use, place_by, trace_commands}
 use Rattle.trace_check.specs.Orderly.{Tracing, traced_on, with_command, Follow, MayBeStopped, IsArrived, AllKeepOrder}
 use Rattle.trace_check.specs.Hitless.{commits_in, AreHitless}
 use Rattle.trace_check.proofs.Maps.{HasMaps, maps_on}
@@ -194,7 +194,7 @@ module _ (mode : Mode) where
   command_on now AtStart next command changes there known = absurd known
   command_on now (Between m) next command changes there known = absurd (cc)
   command_on now (InBatch m k) next command changes there known =
-      subst (λ p. Known p (with_command now command)) (sym (only (nat_lt k most_commands) (InBatch m (k + 1)) next there))
+      subst (λ p. Known p (with_command now command)) (sym (only (nat_lt k trace_commands) (InBatch m (k + 1)) next there))
       (record {
         set = known.set;
         changes = all_append ChangesRules now.batch (command ∷ []) known.changes (changes, tt);

@@ -9,7 +9,6 @@ use Rattle.rule_store.specs.declared.Mode.{Mode}
 use Rattle.rule_store.specs.declared.Mode.TheVariants.{Cover, Bits}
 use Rattle.rule_store.specs.declared.Command.{Command}
 use Rattle.rule_store.specs.declared.Command.TheVariants as change
-use Rattle.rule_store.specs.Batch.{most_commands}
 use Rattle.rule_store.specs.Verdict.{Accepted, verdict}
 use Rattle.tcam_device.specs.declared.Write.{Write}
 use Rattle.tcam_device.specs.State.{State, IsState, blank, apply}
@@ -30,7 +29,7 @@ use Rattle.trace_check.specs.declared.trace.Trace.{Trace}
 use Rattle.trace_check.specs.Checked.{RefusesLine, without_made}
 use Rattle.trace_check.specs.Kept.{IsPair, IsRefusal, device_state}
 use Rattle.trace_check.specs.Orderly.{Tracing, untraced, traced_on, Keeps}
-use Rattle.trace_check.specs.Places.{Heads, Begins, Changes, Happens, Finishes, Refuses, Ends, only_if, is_slot_in_use, place_by, place_after}
+use Rattle.trace_check.specs.Places.{Heads, Begins, Changes, Happens, Finishes, Refuses, Ends, only_if, is_slot_in_use, place_by, place_after, trace_commands}
 use Rattle.trace_check.specs.Traced.{Breaks, IsOpen, IsRightAt, IsSoundTrace, MayBeJudged, Rests, WriteStops, TakesLine, now_of}
 use Rattle.trace_check.proofs.PlacedEntries.{entry_in}
 use Rattle.trace_check.proofs.SlotsBegun.{blank_rests, none_stands, blank_alone}
@@ -98,7 +97,7 @@ command_at : (slots : ℕ) (place next : Place) (trace : Trace) → place_by slo
     → (n : ℕ) × (k : ℕ) × (next ≡ InBatch n (k + 1)) × IsRightAt (InBatch n k) trace
 command_at slots AtStart next trace there right = absurd (cc)
 command_at slots (Between m) next trace there right = absurd (cc)
-command_at slots (InBatch m k) next trace there right = (m, k, (only (nat_lt k most_commands) (InBatch m (k + 1)) next there).0, right)
+command_at slots (InBatch m k) next trace there right = (m, k, (only (nat_lt k trace_commands) (InBatch m (k + 1)) next there).0, right)
 command_at slots (InEvents m) next trace there right = absurd (cc)
 command_at slots AtEnd next trace there right = absurd (cc)
 

@@ -4,13 +4,12 @@ use Rattle.std.specs.Prelude.{nat_eq, nat_lt}
 use Rattle.std.specs.List.{AllByRecursion}
 use Rattle.std.proofs.lemmas.Bool.{ltb-true}
 use Rattle.slot_order.proofs.Lists.{all_append}
-use Rattle.rule_store.specs.Batch.{most_commands}
 use Rattle.rule_model.specs.declared.IpVersion.{IpVersion}
 use Rattle.trace_file.specs.declared.TraceLine.{TraceLine}
 use Rattle.trace_file.specs.declared.TraceLine.TheVariants.{Head, Commit, Add, Set, Del, Put, Erase, Table, Drain, Done, Refused, End, Fault}
 use Rattle.trace_check.specs.declared.places.Place.{Place}
 use Rattle.trace_check.specs.declared.places.Place.TheVariants.{AtStart, Between, InBatch, InEvents, AtEnd}
-use Rattle.trace_check.specs.Places.{LineKind, Heads, Begins, Changes, Happens, Finishes, Refuses, Ends, kind_of, is_slot_in_use, only_if, place_by, place_after, LinesLead, Part, Refusal, Work, part_lines, parts_lines, IsEvent, IsPart, IsWholeTrace, MayStand, IsHeadOf, HasHeadOf, PlacesAreExact}
+use Rattle.trace_check.specs.Places.{LineKind, Heads, Begins, Changes, Happens, Finishes, Refuses, Ends, kind_of, is_slot_in_use, only_if, place_by, place_after, LinesLead, Part, Refusal, Work, part_lines, parts_lines, IsEvent, IsPart, IsWholeTrace, MayStand, IsHeadOf, HasHeadOf, PlacesAreExact, trace_commands}
 
 -- what a test allows
 record Allows (test : Bool) (place next : Place) : Type 0 where
@@ -38,13 +37,13 @@ leads_one slots (x ∷ xs) a b c first second =
     leads_one slots xs second.0 b c (subst (λ p. LinesLead slots p xs b) same first.2) second.2
 
 -- whole traces lead from the start to the end
-leads_commands : (slots n k : ℕ) (commands : List TraceLine) → AllByRecursion (λ line. kind_of line ≡ Changes) commands → k + length commands ≤ most_commands
+leads_commands : (slots n k : ℕ) (commands : List TraceLine) → AllByRecursion (λ line. kind_of line ≡ Changes) commands → k + length commands ≤ trace_commands
     → LinesLead slots (InBatch n k) commands (InBatch n (k + length commands))
 leads_commands slots n k [] are few = ap (InBatch n) (let e : k ≡ k + 0 = omega arith in e)
 leads_commands slots n k (line ∷ commands) are few =
     let more : k + 1 + length commands ≡ k + suc (length commands) = omega arith in (
       InBatch n (k + 1),
-      rw are.0 (rw (lt-ltb k most_commands (omega arith)) refl),
+      rw are.0 (rw (lt-ltb k trace_commands (omega arith)) refl),
       subst (λ m. LinesLead slots (InBatch n (k + 1)) commands (InBatch n m)) more (leads_commands slots n (k + 1) commands are.1 (omega arith)),
     )
 
@@ -111,7 +110,7 @@ record IsOpen (slots n k : ℕ) (before : List TraceLine) : Type 0 where
   count : length parts + 1 ≡ n
   changes : AllByRecursion (λ line. kind_of line ≡ Changes) commands
   many : length commands ≡ k
-  few : k ≤ most_commands
+  few : k ≤ trace_commands
   happen : AllByRecursion (IsEvent slots) events
   lines_are : before ≡ Head version acl bits slots ∷ (parts_lines 1 parts ++ Commit n ∷ (commands ++ events))
 
@@ -175,7 +174,7 @@ opened slots n before is = record {
   lines_are = ap (λ some. some ++ Commit (n + 1) ∷ []) is.lines_are;
 }
 
-with_command : (slots n k : ℕ) (before : List TraceLine) (line : TraceLine) → (open_part : IsOpen slots n k before) × (open_part.events ≡ []) → kind_of line ≡ Changes → nat_lt k most_commands ≡ true
+with_command : (slots n k : ℕ) (before : List TraceLine) (line : TraceLine) → (open_part : IsOpen slots n k before) × (open_part.events ≡ []) → kind_of line ≡ Changes → nat_lt k trace_commands ≡ true
     → (open_part : IsOpen slots n (k + 1) (before ++ line ∷ [])) × (open_part.events ≡ [])
 with_command slots n k before line (is, none) kind room = (
   record {
@@ -189,7 +188,7 @@ with_command slots n k before line (is, none) kind room = (
     count = is.count;
     changes = all_append (λ l. kind_of l ≡ Changes) is.commands (line ∷ []) is.changes (kind, tt);
     many = length-append is.commands (line ∷ []) ∙ ap (λ m. m + 1) is.many;
-    few = let less : k < most_commands = ltb-true k most_commands room in omega arith;
+    few = let less : k < trace_commands = ltb-true k trace_commands room in omega arith;
     happen = tt;
     lines_are = ap (λ some. some ++ line ∷ []) is.lines_are ∙ ap (λ rest. Head is.version is.acl is.bits slots ∷ rest)
         (append_assoc (parts_lines 1 is.parts) (Commit n ∷ (is.commands ++ is.events)) (line ∷ [])
@@ -228,7 +227,7 @@ ended slots n before line is kind = record { version = is.version; acl = is.acl;
 -- one line more of each kind
 command_step : (slots : ℕ) (place next : Place) (before : List TraceLine) (line : TraceLine) → kind_of line ≡ Changes → Shape slots place before → place_by slots place Changes ≡ Some next → Shape slots next (before ++ line ∷ [])
 command_step slots (InBatch n k) next before line kind shape there =
-    let a = allows (nat_lt k most_commands) (InBatch n (k + 1)) next there in subst (λ p. Shape slots p (before ++ line ∷ [])) (sym a.is) (with_command slots n k before line shape kind a.passes)
+    let a = allows (nat_lt k trace_commands) (InBatch n (k + 1)) next there in subst (λ p. Shape slots p (before ++ line ∷ [])) (sym a.is) (with_command slots n k before line shape kind a.passes)
 command_step slots place next before line kind shape there = absurd (cc)
 
 event_step : (slots : ℕ) (place next : Place) (before : List TraceLine) (line : TraceLine) (slot : Option ℕ) → kind_of line ≡ Happens slot → Shape slots place before → place_by slots place (Happens slot) ≡ Some next

@@ -2,11 +2,14 @@
 use Rattle.std.specs.Prelude.{◌≡◌, ◌↔◌, ℕ, ◌+◌, ◌≤◌, Bool, true, nat_lt, nat_eq, IsTrue, Option, Some, None, List, [], ◌∷◌, ◌++◌, length, if◌then◌else◌}
 use Rattle.std.specs.List.{AllByRecursion}
 use Rattle.rule_model.specs.declared.IpVersion.{IpVersion}
-use Rattle.rule_store.specs.Batch.{most_commands}
 use Rattle.trace_check.specs.declared.places.Place.{Place}
 use Rattle.trace_check.specs.declared.places.Place.TheVariants.{AtStart, Between, InBatch, InEvents, AtEnd}
 use Rattle.trace_file.specs.declared.TraceLine.{TraceLine}
 use Rattle.trace_file.specs.declared.TraceLine.TheVariants.{Head, Commit, Add, Set, Del, Put, Erase, Table, Drain, Done, Refused, End, Fault}
+
+-- the most commands of a commit
+abbrev pub trace_commands : ℕ
+trace_commands = 12288
 
 -- the kinds of lines
 pub data LineKind : Type 0 where
@@ -50,7 +53,7 @@ place_by slots AtStart Heads = Some (Between 0)
 place_by slots (Between commits) (Begins n) = only_if (nat_eq n (commits + 1)) (InBatch n 0)
 place_by slots (Between commits) (Refuses n) = only_if (nat_eq n (commits + 1)) (Between n)
 place_by slots (Between commits) Ends = Some AtEnd
-place_by slots (InBatch commit commands) Changes = only_if (nat_lt commands most_commands) (InBatch commit (commands + 1))
+place_by slots (InBatch commit commands) Changes = only_if (nat_lt commands trace_commands) (InBatch commit (commands + 1))
 place_by slots (InBatch commit commands) (Happens slot) = only_if (is_slot_in_use slots slot) (InEvents commit)
 place_by slots (InBatch commit commands) (Finishes n) = only_if (nat_eq n commit) (Between commit)
 place_by slots (InEvents commit) (Happens slot) = only_if (is_slot_in_use slots slot) (InEvents commit)
@@ -89,7 +92,7 @@ IsEvent slots line = (slot : Option ℕ) × (kind_of line ≡ Happens slot) × I
 abbrev pub IsPart : ℕ → Part → Type 0
 IsPart slots Refusal = Unit {0}
 IsPart slots (Work commands events) =
-    (length commands ≤ most_commands) × AllByRecursion (λ line. kind_of line ≡ Changes) commands × AllByRecursion (IsEvent slots) events
+    (length commands ≤ trace_commands) × AllByRecursion (λ line. kind_of line ≡ Changes) commands × AllByRecursion (IsEvent slots) events
 
 -- a whole trace over so many slots: its head, its commits from 1 on, and its last line
 pub record IsWholeTrace (slots : ℕ) (lines : List TraceLine) : Type 0 where

@@ -6,7 +6,7 @@ ghost use Rattle.trace_check.specs.Places.{place_after};
 
 use trace_file::TraceLine;
 
-/// The most commands of a commit (`most_commands` in definitions).
+/// The most commands of a commit (`trace_commands` in definitions).
 const MOST_COMMANDS: u32 = 12_288;
 
 /// Where a trace is after some lines.

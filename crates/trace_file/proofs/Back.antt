@@ -1,7 +1,7 @@
 -- Each line of a trace is the line that its value is read as.
 use Rattle.std.proofs.Common.{◌≡◌, ℕ, ◌<◌, ◌≤◌, ◌^◌, Bool, true, false, IfSome, List, [], ◌∷◌, ◌++◌, Option, Some, None, refl, sym, ap, arith, le-leb, cond}
 use Rattle.std.specs.Prelude.{codes, slice_index}
-use Rattle.slot_order.specs.Order.{most_slots}
+use Rattle.slot_order.specs.Order.{script_slots}
 use Rattle.serde_json.specs.Data.{array, string}
 use Rattle.rule_model.specs.declared.IpVersion.{IpVersion}
 use Rattle.rule_model.specs.declared.IpVersion.TheVariants.{V4, V6}
@@ -78,16 +78,16 @@ put_back V4 entry is = entry_back entry is
 put_back V6 entry is = entry6_back entry is
 
 -- a head
-head_back : (version : IpVersion) (acl bits : Bool) (slots : ℕ) → 1 ≤ slots → slots ≤ most_slots
+head_back : (version : IpVersion) (acl bits : Bool) (slots : ℕ) → 1 ≤ slots → slots ≤ script_slots
     → head_in (string (family_name version acl)) (string (cond bits (codes "bits") (codes "cover"))) (numeral slots) ≡ Some (Head version acl bits slots)
-head_back V4 true true slots some most = rw (number_back most_slots slots most, le-leb 1 slots some) refl
-head_back V4 true false slots some most = rw (number_back most_slots slots most, le-leb 1 slots some) refl
-head_back V4 false true slots some most = rw (number_back most_slots slots most, le-leb 1 slots some) refl
-head_back V4 false false slots some most = rw (number_back most_slots slots most, le-leb 1 slots some) refl
-head_back V6 true true slots some most = rw (number_back most_slots slots most, le-leb 1 slots some) refl
-head_back V6 true false slots some most = rw (number_back most_slots slots most, le-leb 1 slots some) refl
-head_back V6 false true slots some most = rw (number_back most_slots slots most, le-leb 1 slots some) refl
-head_back V6 false false slots some most = rw (number_back most_slots slots most, le-leb 1 slots some) refl
+head_back V4 true true slots some most = rw (number_back script_slots slots most, le-leb 1 slots some) refl
+head_back V4 true false slots some most = rw (number_back script_slots slots most, le-leb 1 slots some) refl
+head_back V4 false true slots some most = rw (number_back script_slots slots most, le-leb 1 slots some) refl
+head_back V4 false false slots some most = rw (number_back script_slots slots most, le-leb 1 slots some) refl
+head_back V6 true true slots some most = rw (number_back script_slots slots most, le-leb 1 slots some) refl
+head_back V6 true false slots some most = rw (number_back script_slots slots most, le-leb 1 slots some) refl
+head_back V6 false true slots some most = rw (number_back script_slots slots most, le-leb 1 slots some) refl
+head_back V6 false false slots some most = rw (number_back script_slots slots most, le-leb 1 slots some) refl
 
 -- a line
 pub line_back : (version : IpVersion) (text : List ℕ) (line : TraceLine) → IsTraceLineOf version line → line_in version (form_of version text line) ≡ Some line

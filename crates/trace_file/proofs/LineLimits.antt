@@ -2,7 +2,7 @@
 use Rattle.std.proofs.Common.{◌≡◌, ℕ, ◌^◌, ◌<◌, ◌≤◌, List, [], ◌∷◌, Some, inl, inr, subst, arith, leb-true}
 use Rattle.std.specs.Prelude.{nat_le, ◌&&◌, codes, option_map}
 use Rattle.std.specs.Str.{bytes_eq}
-use Rattle.slot_order.specs.Order.{most_slots}
+use Rattle.slot_order.specs.Order.{script_slots}
 use Rattle.serde_json.specs.Data.{Data, Members, no_members, member}
 use Rattle.serde_json.specs.Find.{as_bool, as_str, as_object}
 use Rattle.serde_json.specs.Read.{read}
@@ -120,12 +120,12 @@ module _ (version : IpVersion) where
       let w3 = first_step (number_to (most 16) word) _ line w2.2 in
       subst (IsTraceLineOf version) (let e : Some (Table w2.0 w1.0 w3.0) ≡ Some line = w3.2 in let k : Table w2.0 w1.0 w3.0 ≡ line = cc in k) (bits-is 16 port w1.0 (omega arith) w1.1, bits-is 16 word w3.0 (omega arith) w3.1)
 
-  slots-is : (value : Data) (n : ℕ) → slots_in value ≡ Some n → (1 ≤ n) × (n ≤ most_slots)
+  slots-is : (value : Data) (n : ℕ) → slots_in value ≡ Some n → (1 ≤ n) × (n ≤ script_slots)
   slots-is value n same =
-      let w = first_step (number_to most_slots value) _ n same in
+      let w = first_step (number_to script_slots value) _ n same in
       let p = passed (nat_le 1 w.0) w.0 n w.2 in
       let some : 1 ≤ w.0 = leb-true 1 w.0 p.0 in
-      let most : w.0 ≤ most_slots = number-is most_slots value w.0 w.1 in
+      let most : w.0 ≤ script_slots = number-is script_slots value w.0 w.1 in
       let e = p.1 in
       (omega arith, omega arith)
 

@@ -1,6 +1,6 @@
 -- Which value each line of a trace is, and the limits of its numbers, by the version of IP of the trace.
 use Rattle.std.specs.Prelude.{◌≡◌, ℕ, Bool, ◌+◌, ◌*◌, ◌/◌, ◌%◌, ◌^◌, ◌<◌, ◌≤◌, true, Option, Some, None, List, [], ◌∷◌, ◌++◌, codes, slice_index, IsUtf8, if◌then◌else◌}
-use Rattle.slot_order.specs.Order.{most_slots}
+use Rattle.slot_order.specs.Order.{script_slots}
 use Rattle.serde_json.specs.Data.{Data, null, boolean, number, string, array, object, unsigned, Items, no_items, item, no_members, member}
 use Rattle.rule_model.specs.declared.Rule.{Rule}
 use Rattle.rule_model.specs.declared.IpVersion.{IpVersion}
@@ -188,7 +188,7 @@ IsTraceEntry V6 entry = IsIpv6Entry entry
 
 -- The numbers of a line are within their limits in a trace of this version.
 abbrev pub IsTraceLineOf : IpVersion → TraceLine → Type 0
-IsTraceLineOf version (Head family acl bits slots) = (1 ≤ slots) × (slots ≤ most_slots)
+IsTraceLineOf version (Head family acl bits slots) = (1 ≤ slots) × (slots ≤ script_slots)
 IsTraceLineOf version (Commit n) = n < 2 ^ 32
 IsTraceLineOf version (Add rule) = IsTraceRule version rule
 IsTraceLineOf version (Set priority answer) = IsTraceRank version priority × (answer < 2 ^ 32)

@@ -1,7 +1,7 @@
 -- Which line of a trace a text is, by the version of IP of the trace.
 use Rattle.std.specs.Prelude.{◌≡◌, ◌&&◌, ℕ, Bool, true, false, nat_le, Option, Some, None, List, [], ◌∷◌, codes, IsUtf8, option_map, if◌then◌else◌}
 use Rattle.std.specs.Str.{bytes_eq}
-use Rattle.slot_order.specs.Order.{most_slots}
+use Rattle.slot_order.specs.Order.{script_slots}
 use Rattle.serde_json.specs.Data.{Data, Members, no_members, member}
 use Rattle.serde_json.specs.Find.{as_bool, as_str, as_object}
 use Rattle.serde_json.specs.Read.{read}
@@ -27,7 +27,7 @@ field_in value = option_map (λ second. if second then Dst else Src) (choice_in 
 
 -- the number of slots in use, from 1 to 4,096
 abbrev pub slots_in : Data → Option ℕ
-slots_in value = number_to most_slots value >>= λ n. if nat_le 1 n then Some n else None
+slots_in value = number_to script_slots value >>= λ n. if nat_le 1 n then Some n else None
 
 -- a priority and the result that it gets
 abbrev pub change_in : List Data → Option TraceLine

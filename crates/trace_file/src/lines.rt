@@ -12,7 +12,7 @@ use crate::values::{
 };
 use rule_model::{Entry, Field, IpVersion, Rank, Rule};
 use serde_json::{Map, Value};
-use slot_order::MOST_SLOTS;
+use slot_order::SCRIPT_SLOTS;
 
 /// The line that a value is.
 pub(crate) fn line_of(version: IpVersion, value: &Value) -> Option<TraceLine>
@@ -236,12 +236,12 @@ fn field_of(value: &Value) -> Option<Field>
     }
 }
 
-/// The number of slots in use, from 1 to 4,096.
+/// The number of slots in use, from 1 to `SCRIPT_SLOTS`.
 fn slots_of(value: &Value) -> Option<u32>
     ensures { result ≡ slots_in (view value.now) }
 {
     let slots = number_of_32_bits(value)?;
-    if 1 <= slots && slots <= MOST_SLOTS {
+    if 1 <= slots && slots <= SCRIPT_SLOTS {
         Some(slots)
     } else {
         None

@@ -11,7 +11,7 @@ use Rattle.rule_model.specs.declared.words.Entry.{Entry}
 use Rattle.rule_model.specs.Entry.{RankedPiece}
 use Rattle.rule_store.specs.declared.Command.{Command}
 use Rattle.rule_store.specs.declared.Command.TheVariants as change
-use Rattle.rule_store.specs.Batch.{set_after, most_commands}
+use Rattle.rule_store.specs.Batch.{set_after}
 use Rattle.rule_store.specs.Verdict.{Accepted, verdict, coded_ranges}
 use Rattle.range_bits.proofs.Given.{kept_ranges-parts}
 use Rattle.tcam_device.specs.declared.Action.{Action}
@@ -32,7 +32,7 @@ use Rattle.trace_file.specs.declared.TraceLine.TheVariants.{Head, Commit, Add, S
 use Rattle.trace_file.specs.Forms.{IsTraceLine}
 use Rattle.trace_check.specs.declared.places.Place.{Place}
 use Rattle.trace_check.specs.declared.places.Place.TheVariants.{AtStart, Between, InBatch, InEvents, AtEnd}
-use Rattle.trace_check.specs.Places.{Changes, Happens, Refuses, Ends, place_by, place_after}
+use Rattle.trace_check.specs.Places.{Changes, Happens, Refuses, Ends, place_by, place_after, trace_commands}
 use Rattle.trace_check.specs.Orderly.{Tracing, traced_on, with_command, gives_bit, Follow, AllKeepOrder, Keeps}
 use Rattle.trace_check.proofs.BegunKept.{translated_at}
 use Rattle.trace_lookups.specs.LookUps.{known_behind, trace_actions}
@@ -336,7 +336,7 @@ command_serves : (now : Tracing) (command : Command) (place next : Place) (lines
 command_serves now command AtStart next lines last there known on = absurd known
 command_serves now command (Between m) next lines last there known on = absurd (cc)
 command_serves now command (InBatch m k) next lines last there known on =
-    (m, k, refl, subst (λ p. Serves p (with_command now command) lines last) (only (nat_lt k most_commands) (InBatch m (k + 1)) next there) on)
+    (m, k, refl, subst (λ p. Serves p (with_command now command) lines last) (only (nat_lt k trace_commands) (InBatch m (k + 1)) next there) on)
 command_serves now command (InEvents m) next lines last there known on = absurd (cc)
 command_serves now command AtEnd next lines last there known on = absurd (cc)
 

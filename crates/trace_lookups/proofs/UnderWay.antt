@@ -16,7 +16,7 @@ use Rattle.rule_model.specs.Entry.{RankedPiece}
 use Rattle.rule_store.specs.declared.Mode.{Mode}
 use Rattle.rule_store.specs.declared.Command.{Command}
 use Rattle.rule_store.specs.declared.Command.TheVariants as change
-use Rattle.rule_store.specs.Batch.{ChangesRules, set_after, most_commands}
+use Rattle.rule_store.specs.Batch.{ChangesRules, set_after}
 use Rattle.rule_store.specs.Verdict.{Accepted, verdict}
 use Rattle.tcam_device.specs.declared.Write.TheVariants as write
 use Rattle.tcam_device.specs.State.{State, IsState, Shows, apply}
@@ -37,7 +37,7 @@ use Rattle.trace_file.specs.declared.TraceLine.TheVariants.{Head, Commit, Add, S
 use Rattle.trace_file.specs.Forms.{IsTraceLine}
 use Rattle.trace_check.specs.declared.places.Place.{Place}
 use Rattle.trace_check.specs.declared.places.Place.TheVariants.{AtStart, Between, InBatch, InEvents, AtEnd}
-use Rattle.trace_check.specs.Places.{Heads, Begins, Changes, Happens, Finishes, Refuses, Ends, only_if, is_slot_in_use, place_by, place_after}
+use Rattle.trace_check.specs.Places.{Heads, Begins, Changes, Happens, Finishes, Refuses, Ends, only_if, is_slot_in_use, place_by, place_after, trace_commands}
 use Rattle.trace_check.specs.Orderly.{Tracing, traced_on, with_command, Keeps}
 use Rattle.trace_check.proofs.Maps.{HasMaps, maps_of}
 use Rattle.trace_check.proofs.RestedBits.{rests_on}
@@ -222,7 +222,7 @@ command_on : (now : Tracing) (place next : Place) (command : Command) → Change
 command_on now AtStart next command changes there known = absurd known
 command_on now (Between m) next command changes there known = absurd (cc)
 command_on now (InBatch m k) next command changes there known =
-    subst (λ p. Known p (with_command now command)) (sym (only (nat_lt k most_commands) (InBatch m (k + 1)) next there))
+    subst (λ p. Known p (with_command now command)) (sym (only (nat_lt k trace_commands) (InBatch m (k + 1)) next there))
     (record { idle = known.idle; changes = all_append ChangesRules now.batch (command ∷ []) known.changes (changes, tt); unput = known.unput; undrained = known.undrained })
 command_on now (InEvents m) next command changes there known = absurd (cc)
 command_on now AtEnd next command changes there known = absurd (cc)

@@ -6,7 +6,7 @@ use Rattle.rule_store.specs.declared.Command.{Command}
 use Rattle.rule_store.specs.declared.Command.TheVariants as change
 use Rattle.rule_store.specs.declared.Mode.{Mode}
 use Rattle.rule_store.specs.declared.Mode.TheVariants.{Bits, Cover}
-use Rattle.rule_store.specs.Batch.{ChangesRules, most_commands}
+use Rattle.rule_store.specs.Batch.{ChangesRules}
 use Rattle.tcam_device.specs.declared.Write.TheVariants as write
 use Rattle.tcam_device.proofs.States.{IsState-blank}
 use Rattle.commit_writes.proofs.BatchRules.{IsSoundChange, right_after, set_after-is}
@@ -16,7 +16,7 @@ use Rattle.trace_file.specs.declared.TraceLine.{TraceLine}
 use Rattle.trace_file.specs.declared.TraceLine.TheVariants.{Head, Commit, Add, Set, Del, Put, Erase, Table, Drain, Done, Refused, End, Fault}
 use Rattle.trace_check.specs.declared.places.Place.{Place}
 use Rattle.trace_check.specs.declared.places.Place.TheVariants.{AtStart, Between, InBatch, InEvents, AtEnd}
-use Rattle.trace_check.specs.Places.{Begins, Changes, Ends, Finishes, Happens, Heads, Refuses, kind_of, only_if, place_by}
+use Rattle.trace_check.specs.Places.{Begins, Changes, Ends, Finishes, Happens, Heads, Refuses, kind_of, only_if, place_by, trace_commands}
 use Rattle.trace_check.specs.Checked as order
 use Rattle.trace_check.specs.Checked.{Checked, without_made}
 use Rattle.trace_check.specs.Orderly.{Keeps, Tracing, traced_on}
@@ -46,7 +46,7 @@ begins_idle slots n AtEnd next batch there idle = absurd (cc)
 changes_idle : (slots : ℕ) (place next : Place) (batch : List Command) → place_by slots place Changes ≡ Some next → IsIdleAt next batch
 changes_idle slots AtStart next batch there = absurd (cc)
 changes_idle slots (Between m) next batch there = absurd (cc)
-changes_idle slots (InBatch m k) next batch there = subst (λ p. IsIdleAt p batch) (sym (only (nat_lt k most_commands) (InBatch m (k + 1)) next there)) tt
+changes_idle slots (InBatch m k) next batch there = subst (λ p. IsIdleAt p batch) (sym (only (nat_lt k trace_commands) (InBatch m (k + 1)) next there)) tt
 changes_idle slots (InEvents m) next batch there = absurd (cc)
 changes_idle slots AtEnd next batch there = absurd (cc)
 

@@ -138,7 +138,7 @@ pub run_made-requires-clause-begun : goal.run_made-requires-clause-begun
 run_made-requires-clause-begun g c =
     let slots = (g.D.Writable.view c.args.device.now).slots in
     let numbers = rw c.in-Ok-Made.field-0-is at c.in-Ok-Made.ensures.within in
-    let most = numbers.most_slots in
+    let most = numbers.script_slots in
     let device = c.requires.slots in
     let within : c.in-Ok-Made.slots ≤ slots = omega (arith, most, device) in
     ap (progress_of slots) c.in-Ok-new.ensures ∙ begins c.in-Ok-Made.mode c.in-Ok-Made.placement Acl c.in-Ok-Made.slots slots false 0 false false within
