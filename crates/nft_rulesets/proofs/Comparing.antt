@@ -68,7 +68,7 @@ meet-hold law a b key =
 
 -- ---- several
 
-both-any : (first second : List Tests) (key : Key) → any_holds (first ++ second) key ≡ (any_holds first key || any_holds second key)
+pub both-any : (first second : List Tests) (key : Key) → any_holds (first ++ second) key ≡ (any_holds first key || any_holds second key)
 both-any first second key = list_any-append (λ (one : Tests). tests_hold one key) first second
 
 and-none : (b : Bool) → false ≡ (b && false)
@@ -260,7 +260,7 @@ all-any tested (span ∷ spans) others key number is has made =
 
 -- ---- a comparison
 
-ok-same : (a b : List Tests) → ◌≡◌ {A = Result (List Tests) Why} (Ok a) (Ok b) → a ≡ b
+pub ok-same : (a b : List Tests) → ◌≡◌ {A = Result (List Tests) Why} (Ok a) (Ok b) → a ≡ b
 ok-same a b e = cc
 
 if-few : (few : Bool) (met both : List Tests) → cond few (Ok met) (Err why.Many) ≡ Ok both → met ≡ both
@@ -272,7 +272,7 @@ met-parts true tests both o e = absurd (let bad : ◌≡◌ {A = Result (List Te
 met-parts false tests both None e = absurd (let bad : ◌≡◌ {A = Result (List Tests) Why} (Err why.Values) (Ok both) = e in cc)
 met-parts false tests both (Some others) e = (others, refl, if-few (are_few tests others) (meets_all tests others) both e)
 
-product-any : ListsAnswerAsWalks → (tests both : List Tests) (tested : Field) (spans : List Span) (key : Key) (number : ℕ) → IsKey key → number_of tested key ≡ Some number → product tests tested spans ≡ Ok both
+pub product-any : ListsAnswerAsWalks → (tests both : List Tests) (tested : Field) (spans : List Span) (key : Key) (number : ℕ) → IsKey key → number_of tested key ≡ Some number → product tests tested spans ≡ Ok both
     → any_holds both key ≡ (any_holds tests key && (is_of_field tested key && in_spans spans number))
 product-any law tests both tested spans key number is has made =
     let found = met-parts (wants_proto tested && not (all_have_ports tests)) tests both (all_tests tested spans) made in

@@ -4,3 +4,4 @@ mod Texts
 mod Holding
 mod Comparing
 mod Looking
+mod Elements

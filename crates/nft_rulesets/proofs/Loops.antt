@@ -11,6 +11,8 @@ use Rattle.written_chains.specs.declared.writing.ChainRule.{ChainRule}
 use Rattle.nft_rulesets.specs.declared.fields.Field.{Field}
 use Rattle.nft_rulesets.specs.declared.spans.Span.{Span}
 use Rattle.nft_rulesets.specs.declared.why.Why.{Why}
+use Rattle.nft_rulesets.specs.declared.why.Why.TheVariants as why
+use Rattle.nft_rulesets.specs.Concats.{parts_product}
 use Rattle.nft_rulesets.specs.Values.{before_spans, element_span, element_spans}
 use Rattle.nft_rulesets.specs.Products.{meets_all, meets_one, met_tests}
 use Rattle.nft_rulesets.specs.Spans.{above, below, outside, without}
@@ -128,3 +130,23 @@ numbers-made f into new number end made below made_by put =
 
 pub map-end : {A B : Type 0} → (f : A → B) (list : List A) (into : List B) (place : ℕ) → length list ≤ place → into ++ map f (drop place list) ≡ into
 map-end f list into place all = at_drop_all (λ l. into ++ map f l) list place all ∙ append-nil into
+
+-- ---- parts of an element, each with its field
+
+-- there is no part for a field
+pub part-lacking : {A : Type 0} → (version : IpVersion) (fields : List Field) (parts : List (Value A)) (held : List Tests) (place : ℕ) (unused : Field) → place < length fields → length parts ≤ place
+    → parts_product version (drop place fields) held (items_view (drop place parts)) ≡ Err why.Values
+part-lacking version fields parts held place unused below none =
+    at_drop_more (λ l. parts_product version l held (items_view (drop place parts))) fields place unused below
+    ∙ at_drop_all (λ l. parts_product version (get_or fields place unused ∷ drop (place + 1) fields) held (items_view l)) parts place none
+
+-- there is no field for a part
+pub parts-over : {A : Type 0} → (version : IpVersion) (fields : List Field) (parts : List (Value A)) (held : List Tests) (place : ℕ) → length fields ≤ place → place < length parts
+    → parts_product version (drop place fields) held (items_view (drop place parts)) ≡ Err why.Values
+parts-over version fields [] held place all under = absurd (none place under)
+  where
+    none : (n : ℕ) → n < 0 → ⊥
+    none n less = omega arith
+parts-over version fields (value ∷ parts) held place all under =
+    at_drop_all (λ l. parts_product version l held (items_view (drop place (value ∷ parts)))) fields place all
+    ∙ at_drop_more (λ l. parts_product version [] held (items_view l)) (value ∷ parts) place value under

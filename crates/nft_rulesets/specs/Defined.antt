@@ -4,7 +4,7 @@ use Rattle.std.specs.Str.{bytes_eq}
 use Rattle.json.specs.Find.{as_array, get, get_item}
 use Rattle.json.specs.Json.{Json, null, boolean, number, string, array, object, Items, no_items, item, Members, no_members, member}
 use Rattle.nft_rulesets.specs.declared.asked.Asked.{Asked}
-use Rattle.nft_rulesets.specs.Looks.{text_is}
+use Rattle.nft_rulesets.specs.Looks.{sole, text_is}
 
 -- the table that is asked for, where this member names a table
 abbrev pub is_ours : Asked → List ℕ → Json → Bool
@@ -47,7 +47,7 @@ abbrev pub is_set_key : List ℕ → Bool
 is_set_key key =
     bytes_eq key (codes "family") || bytes_eq key (codes "name") || bytes_eq key (codes "table") || bytes_eq key (codes "type")
     || bytes_eq key (codes "handle") || bytes_eq key (codes "flags") || bytes_eq key (codes "elem") || bytes_eq key (codes "map")
-    || bytes_eq key (codes "comment") || bytes_eq key (codes "auto-merge")
+    || bytes_eq key (codes "comment") || bytes_eq key (codes "auto-merge") || bytes_eq key (codes "stmt")
 
 abbrev pub set_keys : Members → Bool
 set_keys no_members = true
@@ -82,12 +82,30 @@ abbrev pub are_flags : Option Json → Bool
 are_flags None = true
 are_flags (Some value) = listed_flags (as_array value)
 
+-- what a set does with a packet that it has: it counts it, and nothing else
+abbrev pub is_counter : Option (List ℕ × Json) → Bool
+is_counter None = false
+is_counter (Some (key, body)) = bytes_eq key (codes "counter")
+
+abbrev pub all_counters : Items → Bool
+all_counters no_items = true
+all_counters (item value items) = is_counter (sole value) && all_counters items
+
+abbrev pub listed_counters : Option Items → Bool
+listed_counters None = false
+listed_counters (Some items) = all_counters items
+
+abbrev pub are_counters : Option Json → Bool
+are_counters None = true
+are_counters (Some value) = listed_counters (as_array value)
+
 abbrev pub listed_elements : Option Json → Option Items
 listed_elements None = Some no_items
 listed_elements (Some value) = as_array value
 
 abbrev pub elements_in : Json → Option Items
-elements_in body = if is_set body && are_flags (get (codes "flags") body) then listed_elements (get (codes "elem") body) else None
+elements_in body =
+    if is_set body && are_flags (get (codes "flags") body) && are_counters (get (codes "stmt") body) then listed_elements (get (codes "elem") body) else None
 
 abbrev pub elements_of : Option Json → Option Items
 elements_of None = None

@@ -1,5 +1,5 @@
 -- What the items of a ruleset come to in a script: each is said, left out by name, or the one at which the script ends.
-use Rattle.std.specs.Prelude.{◌≡◌, ℕ, ◌+◌, Bool, true, false, not, ◌&&◌, ◌||◌, Result, Ok, Err, Option, Some, None, List, [], ◌∷◌, ◌++◌, codes, if◌then◌else◌}
+use Rattle.std.specs.Prelude.{◌≡◌, ℕ, ◌+◌, Bool, true, false, not, ◌&&◌, ◌||◌, Result, Ok, Err, Option, Some, None, is_some, List, [], ◌∷◌, ◌++◌, codes, if◌then◌else◌}
 use Rattle.std.specs.Str.{bytes_eq}
 use Rattle.rule_model.specs.declared.IpVersion.{IpVersion}
 use Rattle.rule_model.specs.declared.IpVersion.TheVariants.{V4, V6}
@@ -104,8 +104,12 @@ abbrev pub table_note : Json → List ℕ
 table_note body =
     codes "# another table: " ++ (word_at (codes "family") body ++ (codes " " ++ (word_at (codes "name") body ++ codes "\n")))
 
+-- packets may not meet the chains of a table with flags, as of one at rest (`dormant`)
+abbrev pub own_table : Json → ItemRead
+own_table body = if is_some (get (codes "flags") body) then Err (codes "flags of table: " ++ word_at (codes "name") body) else nothing_said
+
 abbrev pub table_said : Asked → Json → ItemRead
-table_said asked body = if is_ours asked (codes "name") body then nothing_said else Ok (table_note body, [])
+table_said asked body = if is_ours asked (codes "name") body then own_table body else Ok (table_note body, [])
 
 -- ---- an item
 
@@ -155,7 +159,7 @@ abbrev pub no_list : List ℕ → List ℕ → List ℕ
 no_list reason name = codes "no list: " ++ (reason ++ (codes ": " ++ (named_key name ++ codes "\n")))
 
 abbrev pub list_or : Asked → Bool → Result (List Line) Refused → Result (List ℕ) (List ℕ)
-list_or asked policy (Ok lines) = Ok (list_text asked.version policy any_tests 10 lines ++ codes "commit\n")
+list_or asked policy (Ok lines) = Ok (list_text asked.version policy any_tests asked.older.now lines ++ codes "commit\n")
 list_or asked policy (Err refused) = Err (no_list (why_text (refused_why refused)) asked.chain.now)
 
 abbrev pub no_chain : Asked → Result (List ℕ) (List ℕ)

@@ -1,6 +1,8 @@
 -- What comparisons mean, in the words of packets.
-use Rattle.std.specs.Prelude.{◌≡◌, ℕ, ◌<◌, ◌^◌, Bool, true, false, not, ◌==◌, ◌&&◌, nat_le, Ok, Option, Some, None, List}
+use Rattle.std.specs.Prelude.{◌≡◌, ℕ, ◌<◌, ◌^◌, Bool, true, false, not, ◌==◌, ◌&&◌, ◌||◌, nat_le, Ok, Option, Some, None, List, [], ◌∷◌}
 use Rattle.std.specs.List.{list_any}
+use Rattle.json.specs.Json.{Json, Items, no_items, item}
+use Rattle.rule_model.specs.declared.IpVersion.{IpVersion}
 use Rattle.rule_model.specs.declared.Key.{Key}
 use Rattle.rule_model.specs.AddressBlock.{block_holds}
 use Rattle.rule_model.specs.Key.{IsKey}
@@ -9,9 +11,11 @@ use Rattle.written_chains.specs.Meets.{tests_hold}
 use Rattle.nft_rulesets.specs.declared.fields.Field.{Field}
 use Rattle.nft_rulesets.specs.declared.fields.Field.TheVariants as field
 use Rattle.nft_rulesets.specs.declared.spans.Span.{Span}
+use Rattle.nft_rulesets.specs.Concats.{element_parts, element_product, elements_product}
 use Rattle.nft_rulesets.specs.Matches.{of_same}
 use Rattle.nft_rulesets.specs.Spans.{blocks, outside_up_to}
 use Rattle.nft_rulesets.specs.Products.{compared}
+use Rattle.nft_rulesets.specs.Values.{value_span}
 
 -- a number is in a span, and in one of several
 abbrev pub span_holds : Span → ℕ → Bool
@@ -63,3 +67,45 @@ abbrev pub ComparisonsHoldWhatTheySay : Type 0
 ComparisonsHoldWhatTheySay = (tests both : List Tests) (tested : Field) (negated : Bool) (spans : List Span) (key : Key) (number : ℕ)
     → IsKey key → number_of tested key ≡ Some number → compared tests tested negated spans ≡ Ok both
     → any_holds both key ≡ (any_holds tests key && (is_of_field tested key && of_same (in_spans spans number) negated))
+
+-- ---- fields together
+
+-- a part of an element holds a packet's field
+abbrev pub number_said : Option Span → Option ℕ → Bool
+number_said None number = false
+number_said (Some span) None = false
+number_said (Some span) (Some number) = span_holds span number
+
+abbrev pub part_holds : IpVersion → Field → Json → Key → Bool
+part_holds version tested value key = is_of_field tested key && number_said (value_span tested version value) (number_of tested key)
+
+-- there is a part for each of some fields, and each of them holds
+abbrev pub parts_hold : IpVersion → List Field → Items → Key → Bool
+parts_hold version [] no_items key = true
+parts_hold version [] (item value items) key = false
+parts_hold version (tested ∷ fields) no_items key = false
+parts_hold version (tested ∷ fields) (item value items) key = part_holds version tested value key && parts_hold version fields items key
+
+abbrev pub listed_hold : IpVersion → List Field → Option Items → Key → Bool
+listed_hold version fields None key = false
+listed_hold version fields (Some parts) key = parts_hold version fields parts key
+
+abbrev pub element_holds : IpVersion → List Field → Json → Key → Bool
+element_holds version fields value key = listed_hold version fields (element_parts value) key
+
+-- one of some elements does
+abbrev pub elements_hold : IpVersion → List Field → Items → Key → Bool
+elements_hold version fields no_items key = false
+elements_hold version fields (item value items) key = element_holds version fields value key || elements_hold version fields items key
+
+-- An element of fields together leaves of some tests those packets that have each field in its part: so of a map's pair.
+abbrev pub PartsHoldTogether : Type 0
+PartsHoldTogether = (version : IpVersion) (fields : List Field) (tests both : List Tests) (value : Json) (key : Key)
+    → IsKey key → element_product version fields tests value ≡ Ok both
+    → any_holds both key ≡ (any_holds tests key && element_holds version fields value key)
+
+-- A comparison with a set of them leaves those that one of its elements holds.
+abbrev pub ElementsHoldTogether : Type 0
+ElementsHoldTogether = (version : IpVersion) (fields : List Field) (tests both : List Tests) (items : Items) (key : Key)
+    → IsKey key → elements_product version fields tests items ≡ Ok both
+    → any_holds both key ≡ (any_holds tests key && elements_hold version fields items key)

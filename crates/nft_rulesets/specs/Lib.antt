@@ -3,6 +3,7 @@ pub mod Defined
 pub mod Spans
 pub mod Values
 pub mod Products
+pub mod Concats
 pub mod Matches
 pub mod Verdicts
 pub mod Rules

@@ -1,10 +1,11 @@
 -- What a comparison tests.
-use Rattle.std.specs.Prelude.{ℕ, Bool, true, false, not, Result, Ok, Err, Option, Some, None, List, [], codes, if◌then◌else◌}
+use Rattle.std.specs.Prelude.{ℕ, Bool, true, false, not, Result, Ok, Err, Option, Some, None, List, [], ◌∷◌, ◌++◌, codes, if◌then◌else◌}
+use Rattle.std.specs.List.{list_any}
 use Rattle.std.specs.Str.{bytes_eq}
 use Rattle.rule_model.specs.declared.IpVersion.{IpVersion}
 use Rattle.rule_model.specs.declared.IpVersion.TheVariants.{V4, V6}
-use Rattle.json.specs.Find.{get, as_str}
-use Rattle.json.specs.Json.{Json, Items}
+use Rattle.json.specs.Find.{as_array, as_str, get}
+use Rattle.json.specs.Json.{Json, Items, no_items, item}
 use Rattle.written_chains.specs.declared.meets.Tests.{Tests}
 use Rattle.nft_rulesets.specs.declared.asked.Asked.{Asked}
 use Rattle.nft_rulesets.specs.declared.fields.Field.{Field}
@@ -12,9 +13,11 @@ use Rattle.nft_rulesets.specs.declared.fields.Field.TheVariants as field
 use Rattle.nft_rulesets.specs.declared.spans.Span.{Span}
 use Rattle.nft_rulesets.specs.declared.why.Why.{Why}
 use Rattle.nft_rulesets.specs.declared.why.Why.TheVariants as why
+use Rattle.nft_rulesets.specs.Concats.{concat_at, element_product, elements_product, parts_in}
+use Rattle.nft_rulesets.specs.Defined.{elements}
 use Rattle.nft_rulesets.specs.Looks.{has_members, sole, text_is}
 use Rattle.nft_rulesets.specs.Products.{compared}
-use Rattle.nft_rulesets.specs.Values.{right_spans}
+use Rattle.nft_rulesets.specs.Values.{listed_items, name_in, named_items, right_spans, set_in}
 
 -- ---- the left side
 
@@ -81,6 +84,50 @@ abbrev pub field_of : IpVersion → Option Json → Result Field Why
 field_of version None = Err why.Match
 field_of version (Some left) = sole_field version (sole left)
 
+-- ---- fields together
+
+-- each one has numbers, or packets don't have it
+abbrev pub part_field : Result Field Why → Result Field Why
+part_field (Err reason) = Err reason
+part_field (Ok field.Source) = Ok field.Source
+part_field (Ok field.Receiver) = Ok field.Receiver
+part_field (Ok field.Protocol) = Ok field.Protocol
+part_field (Ok (field.SourcePort proto)) = Ok (field.SourcePort proto)
+part_field (Ok (field.ReceiverPort proto)) = Ok (field.ReceiverPort proto)
+part_field (Ok field.Version) = Err why.Match
+part_field (Ok field.Absent) = Ok field.Absent
+
+abbrev pub field_behind : List Field → Result Field Why → Result (List Field) Why
+field_behind fields (Ok tested) = Ok (fields ++ tested ∷ [])
+field_behind fields (Err reason) = Err reason
+
+abbrev pub fields_by : (List Field → Result (List Field) Why) → Result (List Field) Why → Result (List Field) Why
+fields_by behind (Ok fields) = behind fields
+fields_by behind (Err reason) = Err reason
+
+abbrev pub fields_from : IpVersion → List Field → Items → Result (List Field) Why
+fields_from version fields no_items = Ok fields
+fields_from version fields (item value items) =
+    fields_by (λ next. fields_from version next items) (field_behind fields (part_field (field_of version (Some value))))
+
+-- The fields of a left side that has several.
+abbrev pub fields_in : IpVersion → Option Items → Result (List Field) Why
+fields_in version None = Err why.Match
+fields_in version (Some parts) = fields_from version [] parts
+
+abbrev pub is_absent : Field → Bool
+is_absent field.Source = false
+is_absent field.Receiver = false
+is_absent field.Protocol = false
+is_absent (field.SourcePort proto) = false
+is_absent (field.ReceiverPort proto) = false
+is_absent field.Version = false
+is_absent field.Absent = true
+
+-- packets don't have one of them
+abbrev pub are_absent : List Field → Bool
+are_absent fields = list_any (λ (tested : Field). is_absent tested) fields
+
 -- ---- the operator
 
 -- whether it is negated
@@ -138,6 +185,44 @@ abbrev pub field_matched : Asked → Items → List Tests → Json → Result Fi
 field_matched asked all tests body (Ok tested) = operated asked all tests body tested (operator_of body)
 field_matched asked all tests body (Err reason) = Err reason
 
+-- ---- a comparison of fields together
+
+abbrev pub items_product : IpVersion → List Field → List Tests → Result Items Why → Result (List Tests) Why
+items_product version fields tests (Ok items) = elements_product version fields tests items
+items_product version fields tests (Err reason) = Err reason
+
+-- one element, or a set of them that stands here
+abbrev pub parts_listed : IpVersion → List Field → List Tests → Json → Option Json → Result (List Tests) Why
+parts_listed version fields tests right None = element_product version fields tests right
+parts_listed version fields tests right (Some body) = items_product version fields tests (listed_items (as_array body))
+
+-- or one that has a name
+abbrev pub parts_named : Asked → Items → List Field → List Tests → Json → Option (List ℕ) → Result (List Tests) Why
+parts_named asked all fields tests right None = parts_listed asked.version fields tests right (set_in (sole right))
+parts_named asked all fields tests right (Some name) =
+    items_product asked.version fields tests (named_items (elements asked (codes "set") name all))
+
+abbrev pub parts_right : Asked → Items → List Field → List Tests → Option Json → Result (List Tests) Why
+parts_right asked all fields tests None = Err why.Values
+parts_right asked all fields tests (Some right) = parts_named asked all fields tests right (name_in right)
+
+-- What no element of a set holds would be too many lines even where the set is small.
+abbrev pub parts_compared : Asked → Items → List Field → List Tests → Bool → Option Json → Result (List Tests) Why
+parts_compared asked all fields tests negated right =
+    if negated then Err why.Operator else if are_absent fields then Ok [] else parts_right asked all fields tests right
+
+abbrev pub parts_operated : Asked → Items → List Tests → Json → List Field → Option Bool → Result (List Tests) Why
+parts_operated asked all tests body fields None = Err why.Operator
+parts_operated asked all tests body fields (Some negated) = parts_compared asked all fields tests negated (get (codes "right") body)
+
+abbrev pub parts_matched : Asked → Items → List Tests → Json → Result (List Field) Why → Result (List Tests) Why
+parts_matched asked all tests body (Ok fields) = parts_operated asked all tests body fields (operator_of body)
+parts_matched asked all tests body (Err reason) = Err reason
+
+abbrev pub left_matched : Asked → Items → List Tests → Json → Option Json → Result (List Tests) Why
+left_matched asked all tests body None = field_matched asked all tests body (field_of asked.version (get (codes "left") body))
+left_matched asked all tests body (Some parts) = parts_matched asked all tests body (fields_in asked.version (parts_in (Some parts)))
+
 -- The tests of a rule that hold with a comparison too.
 abbrev pub matched : Asked → Items → List Tests → Json → Result (List Tests) Why
-matched asked all tests body = field_matched asked all tests body (field_of asked.version (get (codes "left") body))
+matched asked all tests body = left_matched asked all tests body (concat_at (get (codes "left") body))

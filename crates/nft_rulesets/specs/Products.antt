@@ -126,6 +126,11 @@ abbrev pub product : List Tests → Field → List Span → Result (List Tests) 
 product tests tested spans =
     if wants_proto tested && not (all_have_ports tests) then Err why.Ports else met_within tests (all_tests tested spans)
 
+-- and where it is in one, if there is one
+abbrev pub pair_tests : List Tests → Field → Option Span → Result (List Tests) Why
+pair_tests tests tested None = Err why.Values
+pair_tests tests tested (Some span) = product tests tested (span ∷ [])
+
 -- or, where it is negated, in none
 abbrev pub compared_spans : Field → Bool → List Span → List Span
 compared_spans tested negated spans = if negated then outside_up_to (most_of tested) spans else spans

@@ -1,6 +1,8 @@
 -- A rule, statement by statement.
-use Rattle.std.specs.Prelude.{ℕ, Bool, true, false, ◌&&◌, ◌||◌, Result, Ok, Err, Option, Some, None, List, [], ◌∷◌, ◌++◌, codes, if◌then◌else◌}
+use Rattle.std.specs.Prelude.{ℕ, Bool, true, false, ◌&&◌, ◌||◌, Result, Ok, Err, Option, Some, None, is_none, List, [], ◌∷◌, ◌++◌, codes, if◌then◌else◌}
 use Rattle.std.specs.Str.{bytes_eq}
+use Rattle.rule_model.specs.declared.IpVersion.{IpVersion}
+use Rattle.rule_model.specs.declared.IpVersion.TheVariants.{V4, V6}
 use Rattle.json.specs.Find.{get}
 use Rattle.json.specs.Json.{Json, Items, no_items, item}
 use Rattle.json_routes.specs.Lines.{named_key}
@@ -10,8 +12,9 @@ use Rattle.written_chains.specs.declared.writing.ChainRule.{ChainRule}
 use Rattle.nft_rulesets.specs.declared.asked.Asked.{Asked}
 use Rattle.nft_rulesets.specs.declared.why.Why.{Why}
 use Rattle.nft_rulesets.specs.declared.why.Why.TheVariants as why
-use Rattle.nft_rulesets.specs.Looks.{sole, word_at, word_in}
-use Rattle.nft_rulesets.specs.Matches.{matched}
+use Rattle.nft_rulesets.specs.Looks.{sole, text_at, word_at, word_in}
+use Rattle.nft_rulesets.specs.Matches.{is_version, matched}
+use Rattle.nft_rulesets.specs.Products.{meets_all, proto_test}
 use Rattle.nft_rulesets.specs.Verdicts.{decided, mapped, verdict_of}
 
 -- ---- whether it decides anything
@@ -49,12 +52,34 @@ abbrev pub with_rules : ReadSoFar → Result (List ChainRule) Why → Result Rea
 with_rules reading (Ok rules) = Ok (record reading { rules = reading.rules ++ rules; ended = true })
 with_rules reading (Err reason) = Err reason
 
+-- A message of one version of IP, or of TCP, answers the packets of that alone, and nft may print the rule without the comparison that it has for it.
+abbrev pub answered : IpVersion → Option (List ℕ) → List Tests → List Tests
+answered version None tests = tests
+answered version (Some kind) tests =
+    if bytes_eq kind (codes "icmp") then (if is_version version V4 then tests else [])
+    else if bytes_eq kind (codes "icmpv6") then (if is_version version V6 then tests else [])
+    else if bytes_eq kind (codes "tcp reset") then meets_all tests (proto_test 6 ∷ [])
+    else tests
+
+-- the tests that hold with a verdict, which a rejection has
+abbrev pub verdict_tests : Asked → List Tests → List ℕ → Json → List Tests
+verdict_tests asked tests key body = if bytes_eq key (codes "reject") then answered asked.version (text_at (codes "type") body) tests else tests
+
+abbrev pub with_verdict : Asked → Items → ℕ → ReadSoFar → List ℕ → Json → Result ReadSoFar Why
+with_verdict asked all chain reading key body =
+    with_rules (record reading { tests = verdict_tests asked reading.tests key body })
+    (decided chain (verdict_tests asked reading.tests key body) (verdict_of asked all key body))
+
+-- Of counters that a map names the map has those of some packets, and the others leave the rule.
+abbrev pub only_counts : List ℕ → Json → Bool
+only_counts key body = bytes_eq key (codes "log") || (bytes_eq key (codes "counter") && is_none (get (codes "map") body))
+
 abbrev pub by_key : Asked → Items → ℕ → ReadSoFar → List ℕ → Json → Result ReadSoFar Why
 by_key asked all chain reading key body =
     if bytes_eq key (codes "match") then with_tests reading (matched asked all reading.tests body)
     else if bytes_eq key (codes "vmap") then with_rules reading (mapped asked all chain reading.tests body)
-    else if bytes_eq key (codes "counter") || bytes_eq key (codes "log") then Ok reading
-    else with_rules reading (decided chain reading.tests (verdict_of asked all key body))
+    else if only_counts key body then Ok reading
+    else with_verdict asked all chain reading key body
 
 abbrev pub by_sole : Asked → Items → ℕ → ReadSoFar → Option (List ℕ × Json) → Result ReadSoFar Why
 by_sole asked all chain reading None = Err why.Statement

@@ -10,15 +10,15 @@ use Rattle.written_chains.specs.declared.writing.Target.TheVariants as target
 use Rattle.nft_rulesets.specs.declared.asked.Asked.{Asked}
 use Rattle.nft_rulesets.specs.declared.fields.Field.{Field}
 use Rattle.nft_rulesets.specs.declared.fields.Field.TheVariants as field
-use Rattle.nft_rulesets.specs.declared.spans.Span.{Span}
 use Rattle.nft_rulesets.specs.declared.verdicts.Verdict.{Verdict}
 use Rattle.nft_rulesets.specs.declared.verdicts.Verdict.TheVariants as verdict
 use Rattle.nft_rulesets.specs.declared.why.Why.{Why}
 use Rattle.nft_rulesets.specs.declared.why.Why.TheVariants as why
+use Rattle.nft_rulesets.specs.Concats.{concat_at, element_product, parts_in}
 use Rattle.nft_rulesets.specs.Defined.{elements, place_of}
 use Rattle.nft_rulesets.specs.Looks.{has_members, pair_in, sole, text_at}
-use Rattle.nft_rulesets.specs.Matches.{field_of}
-use Rattle.nft_rulesets.specs.Products.{product}
+use Rattle.nft_rulesets.specs.Matches.{are_absent, field_of, fields_in}
+use Rattle.nft_rulesets.specs.Products.{pair_tests}
 use Rattle.nft_rulesets.specs.Values.{element_span, listed_items, name_in, named_items, set_in}
 
 -- ---- a verdict
@@ -77,10 +77,6 @@ abbrev pub pair_decided : Asked → Items → ℕ → List ℕ → Json → Resu
 pair_decided asked all chain key body (Ok tests) = decided chain tests (verdict_of asked all key body)
 pair_decided asked all chain key body (Err reason) = Err reason
 
-abbrev pub pair_tests : List Tests → Field → Option Span → Result (List Tests) Why
-pair_tests tests tested None = Err why.Values
-pair_tests tests tested (Some span) = product tests tested (span ∷ [])
-
 abbrev pub sole_decided : Asked → Items → ℕ → List Tests → Field → Json → Option (List ℕ × Json) → Result (List ChainRule) Why
 sole_decided asked all chain tests tested value None = Err why.Values
 sole_decided asked all chain tests tested value (Some (key, body)) =
@@ -132,6 +128,41 @@ mapped_by asked all chain tests body (Err reason) = Err reason
 mapped_by asked all chain tests body (Ok tested) =
     if not (has_members 2 body) then Err why.Operator else field_mapped asked all chain tests tested (get (codes "data") body)
 
+-- ---- a map of fields together
+
+abbrev pub parts_sole : Asked → Items → ℕ → List Tests → List Field → Json → Option (List ℕ × Json) → Result (List ChainRule) Why
+parts_sole asked all chain tests fields value None = Err why.Values
+parts_sole asked all chain tests fields value (Some (key, body)) =
+    pair_decided asked all chain key body (element_product asked.version fields tests value)
+
+abbrev pub parts_decided : Asked → Items → ℕ → List Tests → List Field → Option (Json × Json) → Result (List ChainRule) Why
+parts_decided asked all chain tests fields None = Err why.Values
+parts_decided asked all chain tests fields (Some (value, to)) = parts_sole asked all chain tests fields value (sole to)
+
+-- the rules of its pairs
+abbrev pub parts_pairs : Asked → Items → ℕ → List Tests → List Field → Items → Result (List ChainRule) Why
+parts_pairs asked all chain tests fields no_items = Ok []
+parts_pairs asked all chain tests fields (item value items) =
+    before_rules (parts_decided asked all chain tests fields (pair_in value)) (parts_pairs asked all chain tests fields items)
+
+abbrev pub parts_items : Asked → Items → ℕ → List Tests → List Field → Result Items Why → Result (List ChainRule) Why
+parts_items asked all chain tests fields (Ok items) = parts_pairs asked all chain tests fields items
+parts_items asked all chain tests fields (Err reason) = Err reason
+
+abbrev pub fields_mapped : Asked → Items → ℕ → List Tests → List Field → Option Json → Result (List ChainRule) Why
+fields_mapped asked all chain tests fields pairs = if are_absent fields then Ok [] else parts_items asked all chain tests fields (pairs_of asked all pairs)
+
+abbrev pub parts_mapped : Asked → Items → ℕ → List Tests → Json → Result (List Field) Why → Result (List ChainRule) Why
+parts_mapped asked all chain tests body (Err reason) = Err reason
+parts_mapped asked all chain tests body (Ok fields) =
+    if not (has_members 2 body) then Err why.Operator else fields_mapped asked all chain tests fields (get (codes "data") body)
+
+-- ---- by the key of a map
+
+abbrev pub key_mapped : Asked → Items → ℕ → List Tests → Json → Option Json → Result (List ChainRule) Why
+key_mapped asked all chain tests body None = mapped_by asked all chain tests body (field_of asked.version (get (codes "key") body))
+key_mapped asked all chain tests body (Some parts) = parts_mapped asked all chain tests body (fields_in asked.version (parts_in (Some parts)))
+
 -- The rules of a map, behind these tests.
 abbrev pub mapped : Asked → Items → ℕ → List Tests → Json → Result (List ChainRule) Why
-mapped asked all chain tests body = mapped_by asked all chain tests body (field_of asked.version (get (codes "key") body))
+mapped asked all chain tests body = key_mapped asked all chain tests body (concat_at (get (codes "key") body))

@@ -3,12 +3,13 @@
 ghost use Rattle.std.specs.Prelude.{◌≡◌, ◌+◌, Some, None, option_map, codes};
 ghost use Rattle.std.specs.Str.{bytes_eq};
 ghost use Rattle.json.specs.Value.{items_view, members_view, value_view};
-ghost use Rattle.nft_rulesets.specs.Defined.{all_flags, are_flags, defines, elements, elements_at, elements_in, is_base, is_flag, is_hooked, is_named, is_ours, is_set, is_set_key, listed_elements, place_of, set_keys};
+ghost use Rattle.nft_rulesets.specs.Defined.{all_counters, all_flags, are_counters, are_flags, defines, elements, elements_at, elements_in, is_base, is_counter, is_flag, is_hooked, is_named, is_ours, is_set, is_set_key, listed_elements, place_of, set_keys};
+ghost use Rattle.nft_rulesets.specs.Looks.{sole};
 ghost use Rattle.json.specs.Find.{get};
 ghost use Rattle.json.specs.Json.{no_items};
 
 use crate::asked::Asked;
-use crate::looks::{item_at, items_of, text_is};
+use crate::looks::{item_at, items_of, sole, text_is};
 use json::Value;
 
 /// Whether a member names the table that is asked for.
@@ -81,6 +82,7 @@ fn is_set_key(key: &str) -> bool
         || key == "map"
         || key == "comment"
         || key == "auto-merge"
+        || key == "stmt"
 }
 
 /// Whether a body has no other key.
@@ -140,11 +142,46 @@ fn are_flags(body: &Value) -> bool
     }
 }
 
+/// A statement of a set that counts the packets that it has, and nothing else.
+fn is_counter(value: &Value) -> bool
+    ensures { result ≡ is_counter (sole (value_view value.now)) }
+{
+    match sole(value) {
+        Some(found) => found.0 == "counter",
+        None => false,
+    }
+}
+
+/// Whether these are such statements.
+fn all_counters(items: &[Value]) -> bool
+    ensures { result ≡ all_counters (items_view items.now) }
+{
+    for item in items {
+        if !is_counter(item) {
+            return false;
+        }
+    }
+    true
+}
+
+/// Whether the statements of a set are.
+fn are_counters(body: &Value) -> bool
+    ensures { result ≡ are_counters (get (codes "stmt") (value_view body.now)) }
+{
+    match body.get("stmt") {
+        Some(statements) => match items_of(statements) {
+            Some(items) => all_counters(items),
+            None => false,
+        },
+        None => true,
+    }
+}
+
 /// The elements of a set.
 fn elements_in<'v, 'a>(body: &'v Value<'a>) -> Option<&'v [Value<'a>]>
     ensures { option_map (λ found. items_view found.now) result ≡ elements_in (value_view body.now) }
 {
-    if is_set(body) && are_flags(body) {
+    if is_set(body) && are_flags(body) && are_counters(body) {
         return listed_elements(body);
     }
     None

@@ -3,7 +3,7 @@
 ghost use Rattle.std.specs.Prelude.{◌≡◌, Ok, Err, Some, None};
 ghost use Rattle.std.specs.Str.{bytes_eq};
 ghost use Rattle.json.specs.Value.{value_view};
-ghost use Rattle.nft_rulesets.specs.Matches.{address_field, field_of, head_field, ipv4_field, is_version, kind_field, meta_field, of_version, payload_field, port_field};
+ghost use Rattle.nft_rulesets.specs.Matches.{address_field, field_of, head_field, ipv4_field, is_absent, is_version, kind_field, meta_field, of_version, payload_field, port_field};
 ghost use Rattle.nft_rulesets.specs.Products.{has_no_proto, most_of, wants_proto};
 ghost use Rattle.nft_rulesets.specs.Values.{is_address};
 
@@ -59,6 +59,13 @@ impl Field {
             Field::SourcePort(proto) | Field::ReceiverPort(proto) => proto.is_none(),
             _ => false,
         }
+    }
+
+    /// Whether packets of the version that is asked for don't have it.
+    pub(crate) fn is_absent(self) -> bool
+        ensures { result ≡ is_absent self }
+    {
+        matches!(self, Field::Absent)
     }
 }
 

@@ -4,7 +4,7 @@ ghost use Rattle.std.specs.Prelude.{◌≡◌, ◌++◌, [], Some, None, IfOk, O
 ghost use Rattle.json.specs.Find.{get};
 ghost use Rattle.json.specs.Value.{items_view, value_view};
 ghost use Rattle.nft_rulesets.specs.Looks.{sole, text_at};
-ghost use Rattle.nft_rulesets.specs.Items.{IsItem, chain_item, chain_said, family_fits, is_definition, item_by_key, item_read, listed_statements, no_packet, packet_note, policy_named, policy_said, rule_place_of, rule_said, statements_said, table_note, table_said, type_said, verdict_note};
+ghost use Rattle.nft_rulesets.specs.Items.{IsItem, chain_item, chain_said, family_fits, is_definition, item_by_key, item_read, listed_statements, no_packet, own_table, packet_note, policy_named, policy_said, rule_place_of, rule_said, statements_said, table_note, table_said, type_said, verdict_note};
 ghost use Rattle.nft_rulesets.specs.Rules.{rule_place};
 
 use crate::asked::Asked;
@@ -212,13 +212,26 @@ fn tell_chain(asked: &Asked, body: &Value, into: &mut Vec<u8>) -> Result<Told, A
     Ok(Told::Said)
 }
 
+/// Tells the table that is asked for: packets may not meet the chains of one with flags, as of one at rest (`dormant`).
+fn tell_own_table(body: &Value, into: &mut Vec<u8>) -> Result<Told, AllocError>
+    requires { into.old.items ≡ [] }
+    ensures { IfOk result (λ answer. IsItem answer (own_table (value_view body.now)) into.new.items [] []) }
+{
+    if body.get("flags").is_some() {
+        into.extend_from_slice(b"flags of table: ")?;
+        into.extend_from_slice(word_at(body, "name"))?;
+        return Ok(Told::Unsaid);
+    }
+    Ok(Told::Said)
+}
+
 /// Tells a table.
 fn tell_table(asked: &Asked, body: &Value, into: &mut Vec<u8>) -> Result<Told, AllocError>
     requires { into.old.items ≡ [] }
     ensures { IfOk result (λ answer. IsItem answer (table_said asked.now (value_view body.now)) into.new.items [] []) }
 {
     if is_ours(asked, "name", body) {
-        return Ok(Told::Said);
+        return tell_own_table(body, into);
     }
     into.extend_from_slice(b"# another table: ")?;
     into.extend_from_slice(word_at(body, "family"))?;

@@ -1,6 +1,6 @@
 //! Laws as calls: each makes nothing, and its contract is the law.
 
-ghost use Rattle.nft_rulesets.specs.Laws.{BlocksAreTheSpan, ComparisonsHoldWhatTheySay, OutsideIsTheRest};
+ghost use Rattle.nft_rulesets.specs.Laws.{BlocksAreTheSpan, ComparisonsHoldWhatTheySay, ElementsHoldTogether, OutsideIsTheRest, PartsHoldTogether};
 
 use written_chains::lists_answer_as_walks;
 
@@ -19,5 +19,19 @@ pub fn comparisons_hold_what_they_say()
     ensures { ComparisonsHoldWhatTheySay }
 {
     // Of two tests that meet it is known by a list: the one of a rule that jumps to another rule.
+    lists_answer_as_walks();
+}
+
+/// An element of fields together leaves of a rule's tests those packets that have each field in its part, as of a map's pair.
+pub fn parts_hold_together()
+    ensures { PartsHoldTogether }
+{
+    lists_answer_as_walks();
+}
+
+/// A comparison with a set of such elements leaves those that one of them holds.
+pub fn elements_hold_together()
+    ensures { ElementsHoldTogether }
+{
     lists_answer_as_walks();
 }

@@ -14,6 +14,9 @@
 //! of its comparisons holds. A verdict makes rules of a chain of them, as `written_chains` has them, and so does a map, one
 //! for each of its values; what comes of the chains is `written_chains`' too.
 //!
+//! Where fields are compared together (`ip saddr . tcp dport`) an element is where each of its parts holds (`concats`), and a
+//! set is one element after the other.
+//!
 //! Chains, sets and maps are looked for among all items, so that it doesn't matter which comes first. A chain's number is
 //! its place among them.
 //!
@@ -24,10 +27,15 @@
 //! - **`goto` is a jump and a return**: where a packet leaves the other chain, it leaves this one.
 //! - **The next header of IPv6 isn't the protocol** that scripts have: extension headers stand between. So `ip6 nexthdr` isn't
 //!   said, and `meta l4proto` is.
-//! - **A port of any protocol** (`th dport`) is said where the rule tests before it that the packet is of TCP or UDP.
+//! - **A port of any protocol** (`th dport`) is said where the rule tests before it that the packet is of TCP or UDP; among
+//!   fields together, where a part before it does.
+//! - **Fields together aren't negated**: what no element holds is a list of lines for each of them, met with one another,
+//!   and that would be too many already for small sets. A map of them is in the order that it is printed in, which is that
+//!   by which the kernel looks: it takes an element into another one only behind it.
 #![tactic(auto)]
 
 mod asked;
+mod concats;
 mod defined;
 mod fields;
 mod items;
@@ -40,11 +48,15 @@ mod rules;
 mod script;
 mod spans;
 mod text;
+mod together;
 mod top;
 mod values;
 mod verdicts;
 mod why;
 
 pub use asked::Asked;
-pub use laws::{blocks_are_the_span, comparisons_hold_what_they_say, outside_is_the_rest};
+pub use laws::{
+    blocks_are_the_span, comparisons_hold_what_they_say, elements_hold_together,
+    outside_is_the_rest, parts_hold_together,
+};
 pub use top::import_nft;

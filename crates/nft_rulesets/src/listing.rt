@@ -79,7 +79,15 @@ fn put_chain(
 {
     match written_out(alloc, rules, chain, DEPTH, MOST_LINES)? {
         Ok(lines) => {
-            put_list(into, asked.version, policy, lines.as_slice(), &any_tests())?;
+            put_list(
+                alloc,
+                into,
+                asked.version,
+                policy,
+                lines.as_slice(),
+                &any_tests(),
+                asked.older,
+            )?;
             into.extend_from_slice(b"commit\n")?;
             Ok(true)
         }

@@ -2,7 +2,7 @@
 
 ghost use Rattle.std.specs.Prelude.{◌≡◌, ◌≢◌, Ok, Err, Some, None, [], IfOk, MatchResult, MatchOption, option_map, codes};
 ghost use Rattle.json.specs.Value.{items_view, value_view};
-ghost use Rattle.nft_rulesets.specs.Matches.{field_compared, field_matched, matched, of_same, operated, operator_of, right_compared, text_value, version_named, version_tests, field_of};
+ghost use Rattle.nft_rulesets.specs.Matches.{field_compared, field_matched, of_same, operated, operator_of, right_compared, text_value, version_named, version_tests, field_of};
 ghost use Rattle.json.specs.Find.{get};
 
 use crate::asked::Asked;
@@ -17,7 +17,7 @@ use std::alloc::{AllocError, Global};
 use written_chains::Tests;
 
 /// Whether a comparison is negated.
-fn operator_of(body: &Value) -> Option<bool>
+pub(crate) fn operator_of(body: &Value) -> Option<bool>
     ensures { result ≡ operator_of (value_view body.now) }
 {
     if !has_members(body, 3) {
@@ -50,7 +50,7 @@ fn of_same(same: bool, negated: bool) -> bool
 }
 
 /// Tests in room of their own.
-fn copied(alloc: Global, tests: &[Tests]) -> Result<Vec<Tests>, AllocError>
+pub(crate) fn copied(alloc: Global, tests: &[Tests]) -> Result<Vec<Tests>, AllocError>
     ensures { IfOk result (λ copy. copy.items ≡ tests.now) }
 {
     Vec::from_slice(alloc, tests)
@@ -135,16 +135,16 @@ fn field_compared(
     }
 }
 
-/// The tests of a rule that hold with a comparison too. Err: why it isn't said.
-pub(crate) fn matched(
+/// The tests of a rule that hold with a comparison of one field. Err: why it isn't said.
+pub(crate) fn matched_field(
     alloc: Global,
     asked: &Asked,
     all: &[Value],
     tests: &[Tests],
     body: &Value,
 ) -> Result<Result<Vec<Tests>, Why>, AllocError>
-    ensures { IfOk result (λ answer. MatchResult answer (λ both. matched asked.now (items_view all.now) tests.now (value_view body.now) ≡ Ok both.items)
-        (λ why. matched asked.now (items_view all.now) tests.now (value_view body.now) ≡ Err why)) }
+    ensures { IfOk result (λ answer. MatchResult answer (λ both. field_matched asked.now (items_view all.now) tests.now (value_view body.now) (field_of asked.now.version (get (codes "left") (value_view body.now))) ≡ Ok both.items)
+        (λ why. field_matched asked.now (items_view all.now) tests.now (value_view body.now) (field_of asked.now.version (get (codes "left") (value_view body.now))) ≡ Err why)) }
 {
     match left_field(asked.version, body) {
         Ok(field) => match operator_of(body) {

@@ -2,7 +2,7 @@
 
 ghost use Rattle.std.specs.Prelude.{◌≡◌, ◌≤◌, ◌*◌, ◌++◌, ◌∷◌, [], Ok, Err, Some, None, true, IfOk, OnOk, MatchResult, length, map, false};
 ghost use Rattle.nft_rulesets.specs.Spans.{blocks};
-ghost use Rattle.nft_rulesets.specs.Products.{all_have_ports, all_tests, are_few, compared, compared_spans, is_right, meets_all, meets_one, met_tests, met_within, product, proto_test, proto_tests, receiver_test, source_test, span_tests, IsPut, dports_test, sports_test};
+ghost use Rattle.nft_rulesets.specs.Products.{all_have_ports, all_tests, are_few, compared, compared_spans, is_right, meets_all, meets_one, met_tests, met_within, pair_tests, product, proto_test, proto_tests, receiver_test, source_test, span_tests, IsPut, dports_test, sports_test};
 
 use crate::fields::Field;
 use crate::spans::{Span, outside_up_to, put_blocks};
@@ -42,7 +42,7 @@ fn receiver_test(block: &Prefix) -> Tests
 }
 
 /// And of a protocol.
-fn proto_test(proto: u8) -> Tests
+pub(crate) fn proto_test(proto: u8) -> Tests
     ensures { result ≡ proto_test proto }
 {
     Tests {
@@ -212,7 +212,11 @@ fn put_meets(into: &mut Vec<Tests>, tests: &Tests, others: &[Tests]) -> Result<(
 }
 
 /// The tests that hold where one of these does and one of others.
-fn meets_all(alloc: Global, tests: &[Tests], others: &[Tests]) -> Result<Vec<Tests>, AllocError>
+pub(crate) fn meets_all(
+    alloc: Global,
+    tests: &[Tests],
+    others: &[Tests],
+) -> Result<Vec<Tests>, AllocError>
     ensures { IfOk result (λ both. both.items ≡ meets_all tests.now others.now) }
 {
     let mut both = Vec::new(alloc);
@@ -259,6 +263,21 @@ pub(crate) fn product(
             Ok(Ok(meets_all(alloc, tests, others.as_slice())?))
         }
         Err(why) => Ok(Err(why)),
+    }
+}
+
+/// The tests of a rule that hold where a field is in a span too, if there is one.
+pub(crate) fn pair_tests(
+    alloc: Global,
+    tests: &[Tests],
+    field: Field,
+    span: Option<Span>,
+) -> Result<Result<Vec<Tests>, Why>, AllocError>
+    ensures { IfOk result (λ answer. MatchResult answer (λ both. pair_tests tests.now field span ≡ Ok both.items) (λ why. pair_tests tests.now field span ≡ Err why)) }
+{
+    match span {
+        Some(found) => product(alloc, tests, field, &[found]),
+        None => Ok(Err(Why::Values)),
     }
 }
 

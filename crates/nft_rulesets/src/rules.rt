@@ -1,21 +1,25 @@
 //! A rule, statement by statement.
 
-ghost use Rattle.std.specs.Prelude.{◌≡◌, ◌++◌, ◌∷◌, [], Ok, Err, Some, None, IfOk, OnOk, MatchResult, MatchOption, codes};
+ghost use Rattle.std.specs.Prelude.{◌≡◌, ◌++◌, ◌∷◌, [], Ok, Err, Some, None, IfOk, OnOk, MatchResult, MatchOption, codes, option_map, if◌then◌else◌};
 ghost use Rattle.json.specs.Find.{get};
 ghost use Rattle.json.specs.Value.{items_view, value_view};
-ghost use Rattle.nft_rulesets.specs.Looks.{sole};
-ghost use Rattle.nft_rulesets.specs.Rules.{all_pass, by_key, detail, first_reading, is_passing, left_words, passes_by, rule_place, rule_read, side_words, statement_read, statement_words, unsaid_text, words_by, with_rules, with_tests};
+ghost use Rattle.nft_rulesets.specs.Looks.{sole, text_at};
+ghost use Rattle.nft_rulesets.specs.Rules.{all_pass, answered, by_key, detail, first_reading, is_passing, left_words, only_counts, passes_by, rule_place, rule_read, side_words, statement_read, statement_words, unsaid_text, verdict_tests, words_by, with_rules, with_tests, with_verdict};
 ghost use Rattle.nft_rulesets.specs.Matches.{matched};
-ghost use Rattle.nft_rulesets.specs.Verdicts.{decided, mapped};
+ghost use Rattle.nft_rulesets.specs.Verdicts.{mapped};
 
 use crate::asked::Asked;
-use crate::looks::{sole, word_at};
-use crate::matches::matched;
-use crate::verdicts::{put_decided, put_mapped, verdict_of};
+use crate::fields::is_version;
+use crate::looks::{sole, text_at, word_at};
+use crate::matches::copied;
+use crate::products::{meets_all, proto_test};
+use crate::together::{matched, put_mapped};
+use crate::verdicts::{put_decided, verdict_of};
 use crate::why::Why;
 use iptables::any_tests;
 use json::Value;
 use json_routes::{named_key, text_of};
+use rule_model::IpVersion;
 use std::alloc::{AllocError, Global};
 use std::marker::Model;
 use written_chains::{ChainRule, Tests};
@@ -52,6 +56,58 @@ pub(crate) fn all_pass(statements: &[Value]) -> bool
         }
     }
     true
+}
+
+/// Tests of packets, if there are any that it holds.
+fn held_if(alloc: Global, holds: bool, tests: &[Tests]) -> Result<Vec<Tests>, AllocError>
+    ensures { IfOk result (λ held. held.items ≡ (if holds then tests.now else [])) }
+{
+    if holds {
+        return copied(alloc, tests);
+    }
+    Ok(Vec::new(alloc))
+}
+
+/// The tests of packets that a rejection of this kind answers: a message of one version of IP, or of TCP, those of that alone,
+/// and nft may print the rule without the comparison that it has for it.
+fn answered(
+    alloc: Global,
+    version: IpVersion,
+    kind: Option<&str>,
+    tests: &[Tests],
+) -> Result<Vec<Tests>, AllocError>
+    ensures { IfOk result (λ held. held.items ≡ answered version (option_map (λ given. given.now) kind.entry) tests.now) }
+{
+    match kind {
+        Some("icmp") => held_if(alloc, is_version(version, IpVersion::V4), tests),
+        Some("icmpv6") => held_if(alloc, is_version(version, IpVersion::V6), tests),
+        Some("tcp reset") => meets_all(alloc, tests, &[proto_test(6)]),
+        _ => copied(alloc, tests),
+    }
+}
+
+/// The tests that hold with a verdict.
+fn verdict_tests(
+    alloc: Global,
+    asked: &Asked,
+    tests: &[Tests],
+    key: &str,
+    body: &Value,
+) -> Result<Vec<Tests>, AllocError>
+    ensures { IfOk result (λ held. held.items ≡ verdict_tests asked.now tests.now key.now (value_view body.now)) }
+{
+    if key == "reject" {
+        return answered(alloc, asked.version, text_at(body, "type"), tests);
+    }
+    copied(alloc, tests)
+}
+
+/// Whether a statement counts or tells of packets, and nothing else: of counters that a map names the map has those of some
+/// packets, and the others leave the rule.
+fn only_counts(key: &str, body: &Value) -> bool
+    ensures { result ≡ only_counts key.now (value_view body.now) }
+{
+    key == "log" || key == "counter" && body.get("map").is_none()
 }
 
 /// What statements have said: the tests so far, or the rules that a verdict made of them.
@@ -124,10 +180,10 @@ impl Reading {
             self.take_match(alloc, asked, all, body)
         } else if key == "vmap" {
             self.take_map(alloc, asked, all, chain, body)
-        } else if key == "counter" || key == "log" {
+        } else if only_counts(key, body) {
             Ok(Ok(()))
         } else {
-            self.take_verdict(chain, verdict_of(asked, all, key, body))
+            self.take_verdict(alloc, asked, all, chain, key, body)
         }
     }
 
@@ -179,12 +235,18 @@ impl Reading {
     /// Reads a verdict.
     fn take_verdict(
         &mut self,
+        alloc: Global,
+        asked: &Asked,
+        all: &[Value],
         chain: usize,
-        verdict: Result<crate::verdicts::Verdict, Why>,
+        key: &str,
+        body: &Value,
     ) -> Result<Result<(), Why>, AllocError>
-        ensures { IfOk result (λ answer. MatchResult answer (λ done. with_rules self.old (decided chain self.old.tests verdict) ≡ Ok self.new)
-            (λ why. with_rules self.old (decided chain self.old.tests verdict) ≡ Err why)) }
+        ensures { IfOk result (λ answer. MatchResult answer (λ done. with_verdict asked.now (items_view all.now) chain self.old key.now (value_view body.now) ≡ Ok self.new)
+            (λ why. with_verdict asked.now (items_view all.now) chain self.old key.now (value_view body.now) ≡ Err why)) }
     {
+        self.tests = verdict_tests(alloc, asked, self.tests.as_slice(), key, body)?;
+        let verdict = verdict_of(asked, all, key, body);
         let put = put_decided(&mut self.rules, chain, self.tests.as_slice(), verdict)?;
         self.ended = true;
         Ok(put)

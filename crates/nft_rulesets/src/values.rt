@@ -215,7 +215,7 @@ fn sole_span(field: Field, version: IpVersion, value: &Value) -> Option<Span>
 }
 
 /// What a value says.
-fn value_span(field: Field, version: IpVersion, value: &Value) -> Option<Span>
+pub(crate) fn value_span(field: Field, version: IpVersion, value: &Value) -> Option<Span>
     ensures { result ≡ value_span field version (value_view value.now) }
 {
     match point_span(field, version, value) {
@@ -264,7 +264,7 @@ fn element_in<'v, 'a>(body: &'v Value<'a>) -> Option<&'v Value<'a>>
 }
 
 /// The value of an element, or a value that is none.
-fn unwrapped<'v, 'a>(value: &'v Value<'a>) -> Option<&'v Value<'a>>
+pub(crate) fn unwrapped<'v, 'a>(value: &'v Value<'a>) -> Option<&'v Value<'a>>
     ensures { option_map (λ found. value_view found.now) result ≡ unwrapped (value_view value.now) }
 {
     match sole(value) {

@@ -4,7 +4,7 @@ ghost use Rattle.std.specs.Prelude.{◌≡◌, ◌++◌, ◌∷◌, [], Ok, Err,
 ghost use Rattle.json.specs.Find.{get};
 ghost use Rattle.json.specs.Value.{items_view, value_view};
 ghost use Rattle.nft_rulesets.specs.Looks.{sole, pair_in, text_at};
-ghost use Rattle.nft_rulesets.specs.Verdicts.{both_decided, decided, field_mapped, go_to, items_decided, jump_to, leads_to, mapped, pair_tests, pairs_decided, pairs_of, plain_pairs, verdict_of, verdict_rules, with_target, ArePut};
+ghost use Rattle.nft_rulesets.specs.Verdicts.{both_decided, decided, field_mapped, go_to, items_decided, jump_to, leads_to, mapped_by, pairs_decided, pairs_of, plain_pairs, verdict_of, verdict_rules, with_target, ArePut};
 ghost use Rattle.nft_rulesets.specs.Matches.{field_of};
 ghost use Rattle.nft_rulesets.specs.Values.{set_in};
 
@@ -12,8 +12,7 @@ use crate::asked::Asked;
 use crate::defined::{elements, place_of};
 use crate::fields::{Field, field_of};
 use crate::looks::{has_members, items_of, pair_in, sole, text_at};
-use crate::products::product;
-use crate::spans::Span;
+use crate::products::pair_tests;
 use crate::values::{element_span, name_in, set_in};
 use crate::why::Why;
 use json::Value;
@@ -150,21 +149,6 @@ pub(crate) fn put_decided(
     }
 }
 
-/// The tests of a rule that hold with a value of a map.
-fn pair_tests(
-    alloc: Global,
-    tests: &[Tests],
-    field: Field,
-    span: Option<Span>,
-) -> Result<Result<Vec<Tests>, Why>, AllocError>
-    ensures { IfOk result (λ answer. MatchResult answer (λ both. pair_tests tests.now field span ≡ Ok both.items) (λ why. pair_tests tests.now field span ≡ Err why)) }
-{
-    match span {
-        Some(found) => product(alloc, tests, field, &[found]),
-        None => Ok(Err(Why::Values)),
-    }
-}
-
 /// Puts the rules there of a pair of a map.
 fn put_pair(
     alloc: Global,
@@ -219,7 +203,7 @@ fn put_pairs(
 }
 
 /// The pairs of a map that stands here.
-fn plain_pairs<'v, 'a>(listed: &'v Value<'a>) -> Result<&'v [Value<'a>], Why>
+pub(crate) fn plain_pairs<'v, 'a>(listed: &'v Value<'a>) -> Result<&'v [Value<'a>], Why>
     ensures { MatchResult result (λ pairs. plain_pairs (set_in (sole (value_view listed.now))) ≡ Ok (items_view pairs.now))
         (λ why. plain_pairs (set_in (sole (value_view listed.now))) ≡ Err why) }
 {
@@ -306,8 +290,8 @@ fn key_field(version: IpVersion, body: &Value) -> Result<Field, Why>
     }
 }
 
-/// Puts the rules there of a map, behind these tests. Err: why it isn't said.
-pub(crate) fn put_mapped(
+/// Puts the rules there of a map whose key is one field, behind these tests. Err: why it isn't said.
+pub(crate) fn put_mapped_field(
     alloc: Global,
     into: &mut Vec<ChainRule>,
     asked: &Asked,
@@ -316,7 +300,7 @@ pub(crate) fn put_mapped(
     tests: &[Tests],
     body: &Value,
 ) -> Result<Result<(), Why>, AllocError>
-    ensures { IfOk result (λ answer. ArePut answer (mapped asked.now (items_view all.now) chain tests.now (value_view body.now)) into.old.items into.new.items) }
+    ensures { IfOk result (λ answer. ArePut answer (mapped_by asked.now (items_view all.now) chain tests.now (value_view body.now) (field_of asked.now.version (get (codes "key") (value_view body.now)))) into.old.items into.new.items) }
 {
     match key_field(asked.version, body) {
         Ok(field) => {
