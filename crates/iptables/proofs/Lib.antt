@@ -7,3 +7,4 @@ mod Holding
 mod Beside
 mod Between
 mod Ranges
+mod Again

@@ -7,3 +7,4 @@ pub mod Reading
 pub mod Lines
 pub mod Telling
 pub mod Laws
+pub mod Again

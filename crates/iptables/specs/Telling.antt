@@ -1,5 +1,5 @@
 -- What a line comes to in a script, by what is known of those before it.
-use Rattle.std.specs.Prelude.{ℕ, ◌+◌, ◌/◌, ◌%◌, ◌^◌, Bool, true, false, ◌==◌, ◌&&◌, Result, Ok, Err, Option, Some, None, List, [], ◌∷◌, ◌++◌, codes, decimal, take, if◌then◌else◌}
+use Rattle.std.specs.Prelude.{ℕ, ◌/◌, ◌%◌, ◌^◌, Bool, true, false, ◌==◌, ◌&&◌, Result, Ok, Err, Option, Some, None, List, [], ◌∷◌, ◌++◌, codes, decimal, take, if◌then◌else◌}
 use Rattle.std.specs.Str.{bytes_eq}
 use Rattle.rule_model.specs.declared.IpVersion.{IpVersion}
 use Rattle.rule_model.specs.declared.IpVersion.TheVariants.{V4, V6}
@@ -7,6 +7,9 @@ use Rattle.rule_model.specs.AddressBlock.{AddressBlock}
 use Rattle.rule_model.specs.PortRange.{PortRange}
 use Rattle.line_words.specs.Shown.{ipv6_text}
 use Rattle.line_words.specs.Words.{words_of}
+use Rattle.kept_numbers.specs.declared.words.OlderLine.{OlderLine}
+use Rattle.kept_numbers.specs.Numbered.{numbers_for}
+use Rattle.kept_numbers.specs.Written.{numbered_text}
 use Rattle.import_lines.specs.Import.{LineTold, SaidBy, UnsaidBy}
 use Rattle.written_chains.specs.declared.meets.Tests.{Tests}
 use Rattle.written_chains.specs.declared.writing.ChainRule.{ChainRule}
@@ -65,17 +68,29 @@ ports_text range =
 abbrev pub action_text : Bool → List ℕ
 action_text permits = if permits then codes " permit " else codes " deny "
 
--- a rule of this number
-abbrev pub rule_text : IpVersion → ℕ → Bool → Tests → List ℕ
-rule_text version number permits tests =
-    codes "acl add " ++ (decimal number ++ (action_text permits ++ (side_text version tests.src ++ (codes " " ++ (side_text version tests.dst
-    ++ (codes " " ++ (proto_text tests.proto ++ (codes " " ++ (ports_text tests.sport ++ (codes " " ++ (ports_text tests.dport ++ codes "\n")))))))))))
+-- what a line says, with the blank before it
+abbrev pub line_words : IpVersion → Bool → Tests → List ℕ
+line_words version permits tests =
+    action_text permits ++ (side_text version tests.src ++ (codes " " ++ (side_text version tests.dst
+    ++ (codes " " ++ (proto_text tests.proto ++ (codes " " ++ (ports_text tests.sport ++ (codes " " ++ ports_text tests.dport))))))))
 
--- a list, whose first line has this number, and the next one ten more; the last one gives each packet the policy
-abbrev pub list_text : IpVersion → Bool → Tests → ℕ → List Line → List ℕ
-list_text version policy last number [] = rule_text version number policy last
-list_text version policy last number (line ∷ lines) =
-    rule_text version number (or_policy policy line.action) line.tests ++ list_text version policy last (number + 10) lines
+-- the lines of a list; the last one gives each packet the policy
+abbrev pub list_words : IpVersion → Bool → Tests → List Line → List (List ℕ)
+list_words version policy last [] = line_words version policy last ∷ []
+list_words version policy last (line ∷ lines) =
+    line_words version (or_policy policy line.action) line.tests ∷ list_words version policy last lines
+
+-- where all of them are new ones, a comment says so
+abbrev pub anew_note : Bool → List ℕ
+anew_note anew = if anew then codes "# numbered anew: no number is left between\n" else codes ""
+
+abbrev pub text_by : List (List ℕ) → Bool × List ℕ → List ℕ
+text_by lines all = anew_note all.0 ++ numbered_text all.1 lines
+
+-- A list, whose lines have the numbers of older ones of the same words, or numbers between those.
+abbrev pub list_text : IpVersion → Bool → Tests → List OlderLine → List Line → List ℕ
+list_text version policy last older lines =
+    text_by (list_words version policy last lines) (numbers_for older (list_words version policy last lines))
 
 -- the comments on a rule that decides nothing, on one that holds no packet, and on another table
 abbrev pub note_line : List ℕ → List ℕ
@@ -98,21 +113,22 @@ unsaid_text reason word = why_text reason ++ (codes ": " ++ take 64 word)
 
 -- ---- what is known
 
--- the version of IP, the chain that is asked for, the interface by which packets come in, no name for any, the table in which the next line stands, the chains that are declared, the rules of all of
--- them, that chain's policy, and whether its list is written
+-- the version of IP, the chain that is asked for, the interface by which packets come in, no name for any, the lines of an older list of it, the table in which the next line stands, the chains that
+-- are declared, the rules of all of them, that chain's policy, and whether its list is written
 pub record Known : Type 0 where
   pub version : IpVersion
   pub hook : Hook
   pub face : List ℕ
+  pub older : List OlderLine
   pub table : Table
   pub names : List (List ℕ)
   pub rules : List ChainRule
   pub policy : Option Bool
   pub listed : Bool
 
-abbrev pub nothing_known : IpVersion → Hook → List ℕ → Known
-nothing_known version hook face =
-    record { version = version; hook = hook; face = face; table = table.Outside; names = []; rules = []; policy = None; listed = false }
+abbrev pub nothing_known : IpVersion → Hook → List ℕ → List OlderLine → Known
+nothing_known version hook face older =
+    record { version = version; hook = hook; face = face; older = older; table = table.Outside; names = []; rules = []; policy = None; listed = false }
 
 -- ---- a list
 
@@ -131,10 +147,11 @@ listed rules (Some policy) None = Err why.Chain
 listed rules None chain = Err why.Chain
 
 abbrev pub list_of : Known → Result (Bool × List Line) Why
-list_of known = listed known.rules known.policy (name_number known.names (hook_name known.hook))
+list_of known =
+    if known.listed then Err why.Second else listed known.rules known.policy (name_number known.names (hook_name known.hook))
 
 abbrev pub listed_told : Known → Result (Bool × List Line) Why → LineTold
-listed_told known (Ok (policy, lines)) = SaidBy (list_text known.version policy any_tests 10 lines)
+listed_told known (Ok (policy, lines)) = SaidBy (list_text known.version policy any_tests known.older lines)
 listed_told known (Err reason) = UnsaidBy (unsaid_text reason (hook_name known.hook))
 
 abbrev pub with_list : Known → Known

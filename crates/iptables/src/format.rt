@@ -16,6 +16,7 @@ use crate::telling::{MOST_LINES, put_empty, put_list, put_note, put_table, put_w
 use crate::why::Why;
 use crate::words::{first_word, is_named};
 use import_lines::{LineFormat, Told};
+use kept_numbers::OlderLine;
 use rule_model::IpVersion;
 use std::alloc::{AllocError, Global};
 use std::marker::Model;
@@ -31,6 +32,8 @@ pub struct Iptables {
     hook: Hook,
     // By which packets come in; no name for any.
     face: FaceName,
+    // The lines of an older list of it.
+    older: Vec<OlderLine>,
     table: Table,
     // The chains that are declared.
     names: Names,
@@ -47,19 +50,26 @@ impl Model for Iptables {
 
     ghost Value = { Known };
 
-    ghost view = { λ f. record { version = f.version; hook = f.hook; face = f.face; table = f.table; names = f.names; rules = f.rules.items; policy = f.policy; listed = f.listed } };
+    ghost view = { λ f. record { version = f.version; hook = f.hook; face = f.face; older = f.older.items; table = f.table; names = f.names; rules = f.rules.items; policy = f.policy; listed = f.listed } };
 }
 
 impl Iptables {
     /// No line is read yet, of which the list of this chain is to be made, for packets that come in by this interface, or by
-    /// any where it has no name. Takes no memory.
-    pub fn new(alloc: Global, version: IpVersion, hook: Hook, face: FaceName) -> Iptables
-        ensures { result ≡ nothing_known version hook face }
+    /// any where it has no name. Lines of these older ones keep their numbers. Takes no memory.
+    pub fn new(
+        alloc: Global,
+        version: IpVersion,
+        hook: Hook,
+        face: FaceName,
+        older: Vec<OlderLine>,
+    ) -> Iptables
+        ensures { result ≡ nothing_known version hook face older.items }
     {
         Iptables {
             version,
             hook,
             face,
+            older,
             table: Table::Outside,
             names: Names::new(alloc),
             rules: Vec::new(alloc),
@@ -172,7 +182,15 @@ impl Iptables {
     {
         match self.lines(alloc)? {
             Ok((policy, lines)) => {
-                put_list(into, self.version, policy, lines.as_slice(), &any_tests())?;
+                put_list(
+                    alloc,
+                    into,
+                    self.version,
+                    policy,
+                    lines.as_slice(),
+                    &any_tests(),
+                    self.older.as_slice(),
+                )?;
                 self.end_list();
                 Ok(Told::Said)
             }
@@ -198,11 +216,14 @@ impl Iptables {
         self.names.number_of(self.hook.name().as_bytes())
     }
 
-    /// The chain's policy, and its lines but the last one. Err: why it has no list.
+    /// The chain's policy, and its lines but the last one. Err: why it has no list, as where one is written.
     fn lines(&self, alloc: Global) -> Result<Result<(bool, Vec<Line>), Why>, AllocError>
         ensures list { IfOk result (λ answer. MatchResult answer (λ found. list_of self.now ≡ Ok (found.0, found.1.items)) (λ why. list_of self.now ≡ Err why)) }
         ensures few { IfOk result (λ answer. IfOk answer (λ found. length found.1.items ≤ 4095)) }
     {
+        if self.listed {
+            return Ok(Err(Why::Second));
+        }
         match self.policy {
             Some(policy) => listed(alloc, self.rules.as_slice(), policy, self.chain()),
             None => Ok(Err(Why::Chain)),

@@ -1,5 +1,6 @@
 //! Laws as calls: they make nothing, and their contracts are the laws.
 
+ghost use Rattle.iptables.specs.Again.{ListsComeAgain};
 ghost use Rattle.iptables.specs.Laws.{BlocksHold, EitherHolds, FacesHold, MetHold, PortsHold, ProtosHold, SpansHold};
 
 use written_chains::lists_answer_as_walks;
@@ -16,3 +17,8 @@ pub fn values_hold()
 {
     lists_answer_as_walks();
 }
+
+/// The script of a list is one of an older list, by which the same list comes again with the same numbers.
+pub fn lists_come_again()
+    ensures { ListsComeAgain }
+{}

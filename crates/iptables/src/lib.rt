@@ -50,7 +50,7 @@ mod words;
 pub use faces::FaceName;
 pub use fields::any_tests;
 pub use format::Iptables;
-pub use laws::values_hold;
+pub use laws::{lists_come_again, values_hold};
 pub use lines::Hook;
 pub use ports::has_ports;
 pub use protos::proto_named;

@@ -1,14 +1,16 @@
 //! What is written of a line, and of a list.
 
-ghost use Rattle.std.specs.Prelude.{◌≡◌, ◌≤◌, ◌<◌, ◌^◌, ◌++◌, ◌∷◌, OnOk, decimal, take, length};
+ghost use Rattle.std.specs.Prelude.{◌≡◌, ◌≤◌, ◌<◌, ◌^◌, ◌++◌, ◌∷◌, IfOk, OnOk, decimal, take, length};
 ghost use Rattle.written_chains.specs.Walks.{or_policy};
-ghost use Rattle.iptables.specs.Telling.{action_text, address_text, dotted, empty_line, list_text, note_line, ports_text, proto_text, rule_text, side_text, table_line, unsaid_text};
+ghost use Rattle.kept_numbers.specs.Written.{numbered_line, numbered_text};
+ghost use Rattle.iptables.specs.Telling.{action_text, address_text, anew_note, dotted, empty_line, line_words, list_text, list_words, note_line, ports_text, proto_text, side_text, table_line, unsaid_text};
 
 use crate::why::Why;
 use itoa::Buffer;
+use kept_numbers::{OlderLine, Words, numbers_for};
 use line_words::Ipv6Text;
 use rule_model::{Addr, IpVersion, Ports, Prefix};
-use std::alloc::AllocError;
+use std::alloc::{AllocError, Global};
 use written_chains::{Line, Tests};
 
 /// The most bytes of a word that a comment names.
@@ -84,44 +86,106 @@ pub(crate) fn put_table(into: &mut Vec<u8>, text: &[u8]) -> Result<(), AllocErro
     Ok(())
 }
 
-/// Puts the lines of a list there, numbered by tens, and the last one, which gives each packet the policy.
+/// Puts the lines of a list there, and the last one, which gives each packet the policy. A line has the number of the older
+/// line of the same words, or one between those of its neighbours; without older lines they are numbered by tens.
 pub fn put_list(
+    alloc: Global,
     into: &mut Vec<u8>,
     version: IpVersion,
     policy: bool,
     lines: &[Line],
     last: &Tests,
+    older: &[OlderLine],
 ) -> Result<(), AllocError>
     requires { length lines.now ≤ MOST_LINES }
-    ensures { OnOk result (into.new.items ≡ into.old.items ++ list_text version policy last.now 10 lines.now) }
+    ensures { OnOk result (into.new.items ≡ into.old.items ++ list_text version policy last.now older.now lines.now) }
 {
-    let mut number = 10u64;
-    for line in lines {
-        put_rule(
-            into,
-            version,
-            number,
-            line.action.unwrap_or(policy),
-            &line.tests,
-        )?;
-        number += 10;
-    }
-    put_rule(into, version, number, policy, last)?;
+    let words = list_words(alloc, version, policy, lines, last)?;
+    let all = numbers_for(alloc, older, words.as_slice())?;
+    put_bytes(into, anew_note(all.anew).as_bytes())?;
+    put_numbered(into, all.numbers.as_slice(), words.as_slice())?;
     Ok(())
 }
 
-/// Puts the command there that adds a rule.
-fn put_rule(
-    into: &mut Vec<u8>,
+/// The comment on a list of which all lines are numbered anew.
+fn anew_note(anew: bool) -> &'static str
+    ensures { result.now ≡ anew_note anew }
+{
+    if anew {
+        "# numbered anew: no number is left between\n"
+    } else {
+        ""
+    }
+}
+
+/// The words of the lines of a list, and of the last one.
+fn list_words(
+    alloc: Global,
     version: IpVersion,
-    number: u64,
+    policy: bool,
+    lines: &[Line],
+    last: &Tests,
+) -> Result<Vec<Words>, AllocError>
+    requires { length lines.now ≤ MOST_LINES }
+    ensures words { IfOk result (λ words. words.items ≡ list_words version policy last.now lines.now) }
+    ensures few { IfOk result (λ words. length words.items ≤ 4096) }
+{
+    let mut words = Vec::new(alloc);
+    for line in lines {
+        let permits = line.action.unwrap_or(policy);
+        words.push(line_words(alloc, version, permits, &line.tests)?)?;
+    }
+    words.push(line_words(alloc, version, policy, last)?)?;
+    Ok(words)
+}
+
+/// The words of a line, with the blank before them.
+fn line_words(
+    alloc: Global,
+    version: IpVersion,
     permits: bool,
     tests: &Tests,
-) -> Result<(), AllocError>
-    ensures { OnOk result (into.new.items ≡ into.old.items ++ rule_text version number permits tests.now) }
+) -> Result<Words, AllocError>
+    ensures { IfOk result (λ words. words ≡ line_words version permits tests.now) }
+{
+    let mut bytes = Vec::new(alloc);
+    put_words(&mut bytes, version, permits, tests)?;
+    Ok(Words::new(bytes))
+}
+
+/// Puts commands there that add lines of these numbers.
+fn put_numbered(into: &mut Vec<u8>, numbers: &[u64], words: &[Words]) -> Result<(), AllocError>
+    ensures { OnOk result (into.new.items ≡ into.old.items ++ numbered_text numbers.now words.now) }
+{
+    for place in 0..numbers.len() {
+        if place >= words.len() {
+            return Ok(());
+        }
+        put_line(into, numbers[place], &words[place])?;
+    }
+    Ok(())
+}
+
+/// Puts the command there that adds a line.
+fn put_line(into: &mut Vec<u8>, number: u64, words: &Words) -> Result<(), AllocError>
+    ensures { OnOk result (into.new.items ≡ into.old.items ++ numbered_line number words.now) }
 {
     put_bytes(into, b"acl add ")?;
     put_number(into, number)?;
+    put_bytes(into, words.as_bytes())?;
+    put_bytes(into, b"\n")?;
+    Ok(())
+}
+
+/// Puts the words of a line there.
+fn put_words(
+    into: &mut Vec<u8>,
+    version: IpVersion,
+    permits: bool,
+    tests: &Tests,
+) -> Result<(), AllocError>
+    ensures { OnOk result (into.new.items ≡ into.old.items ++ line_words version permits tests.now) }
+{
     put_bytes(into, action_text(permits).as_bytes())?;
     put_side(into, version, &tests.src)?;
     put_bytes(into, b" ")?;
@@ -132,7 +196,6 @@ fn put_rule(
     put_ports(into, &tests.sport)?;
     put_bytes(into, b" ")?;
     put_ports(into, &tests.dport)?;
-    put_bytes(into, b"\n")?;
     Ok(())
 }
 

@@ -42,6 +42,8 @@ pub(crate) enum Why {
     Deep,
     /// Chains of nft stand beside those that are printed.
     Beside,
+    /// A list stands before it.
+    Second,
 }
 
 impl Why {
@@ -68,6 +70,7 @@ impl Why {
             Why::Many => "too many lines",
             Why::Deep => "jumps too deep",
             Why::Beside => "chains beside",
+            Why::Second => "another list",
         }
     }
 }
