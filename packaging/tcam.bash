@@ -7,8 +7,9 @@ _tcam() {
     --placement) words="middle rank ends" ;;
     --removals) words="first last" ;;
     --chain) words="INPUT FORWARD OUTPUT" ;;
+    --since) ;; # a file
     --slots | --depth | --commit | --commits | --list) ;; # a number, or two, or a name
-    import) words="ip-routes ip-monitor ip-json cisco fpm iptables nft --version --leave-out --list --chain --in --help" ;;
+    import) words="ip-routes ip-monitor ip-json cisco fpm iptables nft --version --leave-out --list --chain --in --since --help" ;;
     tcam | */tcam) words="route acl route6 acl6 router router6 gen verify draw explain import judge --help --version" ;;
     explain) words="route acl route6 acl6 router router6 gen verify draw import judge --help" ;;
     *)
@@ -19,7 +20,7 @@ _tcam() {
         gen) words="--slots --ranges --placement --help" ;;
         verify) words="--help" ;;
         draw) words="--commit --commits --occupancy --help" ;;
-        import) words="--version --leave-out --list --chain --in --help" ;;
+        import) words="--version --leave-out --list --chain --in --since --help" ;;
         judge) words="--results --help" ;;
         esac
         ;;

@@ -332,7 +332,7 @@ static void by_parts(struct tcam_manager *manager) {
     struct tcam_write write;
     uint64_t left = 99;
     CHECK(tcam_new_split(manager, 0, TCAM_COVER, TCAM_MIDDLE) == TCAM_SLOTS_RANGE);
-    CHECK(tcam_new_split(manager, 4097, TCAM_COVER, TCAM_MIDDLE) == TCAM_SLOTS_RANGE);
+    CHECK(tcam_new_split(manager, 1048577, TCAM_COVER, TCAM_MIDDLE) == TCAM_SLOTS_RANGE);
     CHECK(tcam_new_split(manager, 8, (enum tcam_mode)2, TCAM_MIDDLE) == TCAM_NO_MODE);
     CHECK(tcam_new_split(manager, 8, TCAM_COVER, (enum tcam_placement)3) == TCAM_NO_PLACEMENT);
     without_manager(manager, TCAM_NO_MANAGER);
@@ -377,7 +377,7 @@ void wrong_uses(void) {
     without_manager(NULL, TCAM_NULL);
     without_manager(&manager, TCAM_NO_MANAGER);
     CHECK(tcam_new(&manager, 0, TCAM_COVER, TCAM_MIDDLE) == TCAM_SLOTS_RANGE);
-    CHECK(tcam_new(&manager, 4097, TCAM_COVER, TCAM_MIDDLE) == TCAM_SLOTS_RANGE);
+    CHECK(tcam_new(&manager, 1048577, TCAM_COVER, TCAM_MIDDLE) == TCAM_SLOTS_RANGE);
     CHECK(tcam_new(&manager, 8, (enum tcam_mode)2, TCAM_MIDDLE) == TCAM_NO_MODE);
     CHECK(tcam_new(&manager, 8, TCAM_COVER, (enum tcam_placement)3) == TCAM_NO_PLACEMENT);
     without_manager(&manager, TCAM_NO_MANAGER);

@@ -37,12 +37,13 @@ pub(crate) enum Name {
     List,
     Chain,
     In,
+    Since,
     Results,
     Help,
 }
 
 /// How many options there are.
-pub(crate) const NAMES: usize = 18;
+pub(crate) const NAMES: usize = 19;
 
 /// The command that a word names.
 pub(crate) fn subcommand_named(word: &str) -> Option<Subcommand> {
@@ -78,6 +79,7 @@ pub(crate) fn option_named(word: &str) -> Option<Name> {
         "--list" => Some(Name::List),
         "--chain" => Some(Name::Chain),
         "--in" => Some(Name::In),
+        "--since" => Some(Name::Since),
         "--results" => Some(Name::Results),
         "--help" | "-h" => Some(Name::Help),
         _ => None,
@@ -104,8 +106,8 @@ pub(crate) fn has_option(subcommand: Subcommand, name: Name) -> bool {
             matches!(subcommand, Subcommand::Route | Subcommand::Acl)
         }
         Name::Commit | Name::Commits | Name::Occupancy => subcommand == Subcommand::Draw,
-        Name::Version | Name::LeaveOut | Name::List | Name::Chain | Name::In => subcommand
-            == Subcommand::Import,
+        Name::Version | Name::LeaveOut | Name::List | Name::Chain | Name::In | Name::Since =>
+            subcommand == Subcommand::Import,
         Name::Results => subcommand == Subcommand::Judge,
     }
 }
@@ -121,7 +123,7 @@ pub(crate) fn options_text(subcommand: Subcommand) -> &'static str {
         Subcommand::Gen => "--slots, --ranges and --placement",
         Subcommand::Verify => "no option",
         Subcommand::Draw => "--commit, --commits and --occupancy",
-        Subcommand::Import => "--version, --leave-out, --list, --chain and --in",
+        Subcommand::Import => "--version, --leave-out, --list, --chain, --in and --since",
         Subcommand::Judge => "--results",
     }
 }
@@ -142,6 +144,7 @@ pub(crate) fn values_text(name: Name) -> Option<&'static str> {
             "INPUT, FORWARD or OUTPUT, of iptables, or three names, of nft: family, table and chain",
         ),
         Name::In => Some("the name of an interface, of iptables"),
+        Name::Since => Some("the name of a file, of iptables and nft"),
         Name::Trace
         | Name::Names
         | Name::Json
@@ -166,6 +169,7 @@ pub(crate) fn is_value(name: Name, value: &str) -> bool {
         Name::List => value.len() <= 64,
         Name::Chain => is_chain(value),
         Name::In => FaceName::new(value.as_bytes()).is_some(),
+        Name::Since => !value.is_empty(),
         Name::Trace
         | Name::Names
         | Name::Json
@@ -220,6 +224,7 @@ pub(crate) fn place_of(name: Name) -> usize
         Name::List => 15,
         Name::Chain => 16,
         Name::In => 17,
+        Name::Since => 18,
     }
 }
 

@@ -4,14 +4,14 @@ use Rattle.std.specs.Prelude.{⊤, codes}
 use Rattle.clap.proofs.OnLiterals.{clap_on_literals}
 use Rattle.rule_model.specs.declared.IpVersion.TheVariants.{V4, V6}
 use Rattle.import_cli.specs.declared.asked.Format.TheVariants.{IpRoutes, IpMonitor, Cisco, Fpm, Iptables, Nft}
-use Rattle.iptables.specs.declared.lines.Hook.TheVariants.{Forward, Output}
-use Rattle.import_cli.specs.CommandLine.{NoJob, Tells, Imports, chain_option, format_position, import_app, import_job, import_line, import_top, in_option, leave_out_flag, list_option, version_option}
+use Rattle.iptables.specs.declared.lines.Hook.TheVariants.{Forward, Input, Output}
+use Rattle.import_cli.specs.CommandLine.{NoJob, Tells, Imports, chain_option, format_position, import_app, import_job, import_line, import_top, in_option, leave_out_flag, list_option, since_option, version_option}
 use Rattle.import_cli.specs.ChainName.{input_chain}
 use Rattle.import_cli.specs.OwnTexts.{import_help}
 
 -- what a proof unfolds to compute what words ask for
 unfoldable the_declaration : ⊤
-unfolding clap_on_literals import_line import_top import_app format_position version_option leave_out_flag list_option chain_option in_option
+unfolding clap_on_literals import_line import_top import_app format_position version_option leave_out_flag list_option chain_option in_option since_option
 the_declaration = tt
 
 plain : import_job (codes "tcam" ∷ codes "import" ∷ codes "ip-routes" ∷ []) ≡ Imports IpRoutes V4 false
@@ -106,3 +106,11 @@ chain-of-no-table = refl
 interface-of-a-ruleset : import_job (codes "tcam" ∷ codes "import" ∷ codes "nft" ∷ codes "--in" ∷ codes "eth0" ∷ []) ≡ NoJob
 unfolding the_declaration
 interface-of-a-ruleset = refl
+
+since-file : import_job (codes "tcam" ∷ codes "import" ∷ codes "iptables" ∷ codes "--since" ∷ codes "old" ∷ []) ≡ Imports (Iptables Input []) V4 false
+unfolding the_declaration
+since-file = refl
+
+since-of-routes : import_job (codes "tcam" ∷ codes "import" ∷ codes "ip-routes" ∷ codes "--since=old" ∷ []) ≡ NoJob
+unfolding the_declaration
+since-of-routes = refl

@@ -11,14 +11,14 @@ use Rattle.clap.proofs.OnLiterals.{clap_on_literals}
 use Rattle.option_words.specs.declared.WordsFault.{WordsFault}
 use Rattle.option_words.proofs.ClearFaults.{Clear, built-clear}
 use Rattle.import_cli.specs.declared.asked.Asked.{Asked}
-use Rattle.import_cli.specs.CommandLine.{ImportJob, asked_by, chain_option, format_position, import_app, import_job, import_job_by_faults, import_job_of, import_job_of_fault, import_line, import_top, in_option, leave_out_flag, list_option, version_option}
+use Rattle.import_cli.specs.CommandLine.{ImportJob, asked_by, chain_option, format_position, import_app, import_job, import_job_by_faults, import_job_of, import_job_of_fault, import_line, import_top, in_option, leave_out_flag, list_option, since_option, version_option}
 
 pub simple_and_free : is_simple_and_free import_line ≡ true
-unfolding clap_on_literals import_line import_top import_app format_position version_option leave_out_flag list_option chain_option in_option
+unfolding clap_on_literals import_line import_top import_app format_position version_option leave_out_flag list_option chain_option in_option since_option
 simple_and_free = refl
 
 pub simple : is_simple import_line ≡ true
-unfolding clap_on_literals import_line import_top import_app format_position version_option leave_out_flag list_option chain_option in_option
+unfolding clap_on_literals import_line import_top import_app format_position version_option leave_out_flag list_option chain_option in_option since_option
 simple = refl
 
 -- the job by such kinds is that of the kind that came
@@ -31,7 +31,7 @@ fault_job (a ∷ b ∷ ks) sub k clear (inr (inl e)) = sym (ap import_job_of_fau
 fault_job (a ∷ b ∷ ks) sub k clear (inr (inr more)) = absurd (subst (IsAmong k) clear.2 more)
 
 line-clear : (words : List Text) → Clear (fault_of import_line words)
-unfolding import_line import_top import_app format_position version_option leave_out_flag list_option chain_option in_option
+unfolding import_line import_top import_app format_position version_option leave_out_flag list_option chain_option in_option since_option
 line-clear words = built-clear (built import_line) nothing_held (argument_words import_line words) refl (refl, tt)
 
 pub taken : (a : App) (words : List Text) (m : ArgMatches) → a ≡ import_line → fault_of a words ≡ [] → subcommand_rows_of m ≡ subcommand_of a words

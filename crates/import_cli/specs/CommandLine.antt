@@ -53,11 +53,15 @@ chain_option = record (new_rule (codes "chain")) { long = Some (codes "chain"); 
 unfoldable pub in_option : Rule
 in_option = record (new_rule (codes "in")) { long = Some (codes "in"); action = Some Set }
 
+-- --since, a word
+unfoldable pub since_option : Rule
+since_option = record (new_rule (codes "since")) { long = Some (codes "since"); action = Some Set }
+
 -- a subcommand for imports
 unfoldable pub import_app : App
 import_app =
-    with_rule (with_rule (with_rule (with_rule (with_rule (with_rule (new_app (codes "import")) format_position) version_option) leave_out_flag) list_option)
-    chain_option) in_option
+    with_rule (with_rule (with_rule (with_rule (with_rule (with_rule (with_rule (new_app (codes "import")) format_position) version_option) leave_out_flag) list_option)
+    chain_option) in_option) since_option
 
 -- tcam with a required subcommand; help is asked for by its flag alone
 unfoldable pub import_top : App
@@ -158,6 +162,23 @@ abbrev pub faced_at : Option Format → Text → Option Format
 faced_at None name = None
 faced_at (Some format) name = face_at format name
 
+-- a format, and the file with the script of an older list, where one is asked for: no other format has lists whose numbers are ours
+abbrev pub with_since : Format → Option Format
+with_since (Iptables hook face) = Some (Iptables hook face)
+with_since (Nft chain) = Some (Nft chain)
+with_since IpRoutes = None
+with_since IpMonitor = None
+with_since IpJson = None
+with_since (Cisco list) = None
+with_since Fpm = None
+
+abbrev pub since_at : Format → Text → Option Format
+since_at format file = if length file == 0 then Some format else with_since format
+
+abbrev pub dated_at : Option Format → Text → Option Format
+dated_at None file = None
+dated_at (Some format) file = since_at format file
+
 abbrev pub version_in : Text → Option IpVersion
 version_in digit =
     if bytes_eq digit (codes "4") then Some V4
@@ -185,8 +206,8 @@ imports_at (Some format) (Some version) leave_out = import_of format version lea
 abbrev pub imports_by : List Row → ImportJob
 imports_by rows =
     imports_at
-    (faced_at (chained_at (listed_at (format_in (text_of (codes "format") rows)) (text_of (codes "list") rows)) (text_of (codes "chain") rows))
-    (text_of (codes "in") rows))
+    (dated_at (faced_at (chained_at (listed_at (format_in (text_of (codes "format") rows)) (text_of (codes "list") rows)) (text_of (codes "chain") rows))
+    (text_of (codes "in") rows)) (text_of (codes "since") rows))
     (version_in (text_of (codes "version") rows))
     (has_text (codes "leave-out") (codes "true") rows)
 

@@ -3,7 +3,7 @@
 ghost use Rattle.std.specs.Prelude.{◌≡◌, false, Err, IfOk, IfSome, IsErrOf, IsNone, map, string_bytes};
 ghost use Rattle.clap.specs.Words.{app_of, found_of, kind_of, rows_of, rule_of, subcommand_rows_of};
 ghost use Rattle.clap.specs.declared.builder.command.Command.TheViews.{out-Command};
-ghost use Rattle.import_cli.specs.CommandLine.{NoJob, asked_by, chain_at, chain_option, face_at, format_in, format_position, hook_face, hook_in, import_app, import_job, import_job_of, import_job_of_fault, import_line, import_of, imports_by, in_option, leave_out_flag, list_at, list_option, version_in, version_option};
+ghost use Rattle.import_cli.specs.CommandLine.{NoJob, asked_by, chain_at, chain_option, face_at, format_in, format_position, hook_face, hook_in, import_app, import_job, import_job_of, import_job_of_fault, import_line, import_of, imports_by, in_option, leave_out_flag, list_at, list_option, since_at, since_option, version_in, version_option};
 
 use crate::chain_name::ChainName;
 use crate::list_name::ListName;
@@ -103,6 +103,16 @@ fn in_arg<'a>(alloc: Global) -> Arg<'a>
     Arg::new(alloc, "in").long("in").action(ArgAction::Set)
 }
 
+/// The script of an older list.
+fn since_arg<'a>(alloc: Global) -> Arg<'a>
+    ensures rule { rule_of result ≡ since_option }
+    ensures global { result.global ≡ false }
+{
+    Arg::new(alloc, "since")
+        .long("since")
+        .action(ArgAction::Set)
+}
+
 /// The subcommand for imports.
 fn import_command<'a>(alloc: Global) -> Result<Command<'a>, AllocError>
     ensures app { IfOk result (λ c. app_of c ≡ import_app) }
@@ -115,7 +125,8 @@ fn import_command<'a>(alloc: Global) -> Result<Command<'a>, AllocError>
             .arg(leave_out_arg(alloc))?
             .arg(list_arg(alloc))?
             .arg(chain_arg(alloc))?
-            .arg(in_arg(alloc))?,
+            .arg(in_arg(alloc))?
+            .arg(since_arg(alloc))?,
     )
 }
 
@@ -171,7 +182,8 @@ fn job_of_import(found: &ArgMatches) -> Option<Asked>
         text_of(found, "list"),
     )?;
     let chained = chain_of(listed, text_of(found, "chain"))?;
-    let format = face_of(chained, text_of(found, "in"))?;
+    let faced = face_of(chained, text_of(found, "in"))?;
+    let format = since_of(faced, text_of(found, "since"))?;
     let version = version_named(text_of(found, "version"))?;
     import_of(format, version, text_of(found, "leave-out") == "true")
 }
@@ -268,6 +280,21 @@ fn face_of(format: Format, name: &str) -> Option<Format>
     }
     match format {
         Format::Iptables(hook, _) => hook_face(hook, FaceName::new(name.as_bytes())?),
+        _ => None,
+    }
+}
+
+/// A format, and the file with the script of an older list, whose name is empty where none is asked for: no other format has
+/// lists whose numbers are ours.
+fn since_of(format: Format, file: &str) -> Option<Format>
+    ensures { result ≡ since_at format file.now }
+{
+    if file.is_empty() {
+        return Some(format);
+    }
+    match format {
+        Format::Iptables(hook, face) => Some(Format::Iptables(hook, face)),
+        Format::Nft(chain) => Some(Format::Nft(chain)),
         _ => None,
     }
 }

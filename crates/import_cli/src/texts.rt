@@ -17,7 +17,7 @@ tcam import: reads what another program prints, and writes a script.
     nft -j list ruleset | tcam import nft --chain 'ip t in' | tcam acl
 
     tcam import FORMAT [--version V] [--leave-out] [--list NAME] [--chain C]
-        [--in NAME]
+        [--in NAME] [--since FILE]
 
 FORMAT is ip-routes: the lines of ip -o route show, of one table; ip-monitor:
 those of ip -o monitor route, each a commit; ip-json: the array of
@@ -42,13 +42,16 @@ Options:
                     own name, by default 'inet filter input'
     --in NAME       of INPUT or FORWARD the packets that come in by this
                     interface, by default by any
+    --since FILE    of iptables and nft: FILE is the script of an earlier import;
+                    a line that it has keeps its number, and a new one gets one
+                    between
 
 Exit status:
     0   the input was read to its end
     2   a line, an item or a frame can't be said, a line is too long or has a
         bad byte, the input is no array or ruleset, what should end it is
-        wanting, or there is no list
-    3   standard input could not be read
+        wanting, or there is no list; or FILE is no script of one
+    3   standard input, or FILE, could not be read
     4   standard output could not be written
     6   memory is wanting
     64  the words are no command line

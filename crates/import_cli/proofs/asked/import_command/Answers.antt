@@ -11,4 +11,5 @@ returns-clause-app c =
     let leave_out = c.in_ok-arg-3.ensures.shape c.leave_out_arg.ensures.global ∙ ap₂ with_rule version c.leave_out_arg.ensures.rule in
     let list = c.in_ok-arg-4.ensures.shape c.list_arg.ensures.global ∙ ap₂ with_rule leave_out c.list_arg.ensures.rule in
     let chain = c.in_ok-arg-5.ensures.shape c.chain_arg.ensures.global ∙ ap₂ with_rule list c.chain_arg.ensures.rule in
-    c.in_ok-arg-6.ensures.shape c.in_arg.ensures.global ∙ ap₂ with_rule chain c.in_arg.ensures.rule
+    let face = c.in_ok-arg-6.ensures.shape c.in_arg.ensures.global ∙ ap₂ with_rule chain c.in_arg.ensures.rule in
+    c.in_ok-arg-7.ensures.shape c.since_arg.ensures.global ∙ ap₂ with_rule face c.since_arg.ensures.rule

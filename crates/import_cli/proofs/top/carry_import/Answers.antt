@@ -1,45 +1,38 @@
-use Rattle.std.proofs.Common.{[], refl}
-use Rattle.script_lines.specs.Given.{counted}
-use Rattle.script_lines.proofs.Turns.{gives-none}
-use Rattle.import_cli.specs.CommandLine.{Imports}
-use Rattle.import_cli.proofs.Carried.{carries-routes, carries-events, carries-json, carries-list, carries-frames, carries-chains, carries-ruleset, wanting}
+use Rattle.std.proofs.Common.{refl}
+use Rattle.import_cli.proofs.Carried.{carries-routes, carries-events, carries-json, carries-list, carries-frames, carries-ruleset, carries-save}
 use Rattle.import_cli.proofs.top.carry_import.Goals as goal
 
 pub returns-in-IpRoutes-clause-job : goal.returns-in-IpRoutes-clause-job
 returns-in-IpRoutes-clause-job g c =
     let by = c.import.ensures.imports in
-    (by.0, by.1, λ which. carries-routes _ _ _ _ _ _ _ _ c.in-IpRoutes.is c.new.ensures (by.2 which))
+    (by.0, by.1, λ which. carries-routes _ _ _ _ _ _ _ _ _ c.in-IpRoutes.is c.new-routes.ensures (by.2 which))
 
 pub returns-in-IpMonitor-clause-job : goal.returns-in-IpMonitor-clause-job
 returns-in-IpMonitor-clause-job g c =
     let by = c.import-in-IpMonitor.ensures.imports in
-    (by.0, by.1, λ which. carries-events _ _ _ _ _ _ _ _ c.in-IpMonitor.is c.new-in-IpMonitor.ensures (by.2 which))
+    (by.0, by.1, λ which. carries-events _ _ _ _ _ _ _ _ _ c.in-IpMonitor.is c.new-events.ensures (by.2 which))
 
 pub returns-in-IpJson-clause-job : goal.returns-in-IpJson-clause-job
 returns-in-IpJson-clause-job g c =
     let by = c.import_json.ensures.imports in
-    (by.0, by.1, λ which. carries-json _ _ _ _ _ _ _ c.in-IpJson.is (by.2 which))
+    (by.0, by.1, λ which. carries-json _ _ _ _ _ _ _ _ c.in-IpJson.is (by.2 which))
 
-pub returns-in-Ok-clause-job : goal.returns-in-Ok-clause-job
-returns-in-Ok-clause-job g c =
-    let by = c.import-in-Ok.ensures.imports in
-    (by.0, by.1, λ which. carries-list _ _ _ _ _ _ _ _ _ c.in-Cisco.is c.in-Ok.ensures (by.2 which))
-
-pub returns-in-Err-clause-job : goal.returns-in-Err-clause-job
-returns-in-Err-clause-job g c =
-    ([], gives-none _ _, λ which. wanting (Imports c.args.format c.args.version c.args.leave_out) (counted which (g.K.Sink.taken c.args.sink.now) (g.K.Sink.accepted c.args.sink.now)))
+pub returns-in-Cisco-clause-job : goal.returns-in-Cisco-clause-job
+returns-in-Cisco-clause-job g c =
+    let by = c.import_named.ensures.job in
+    (by.0, by.1, λ which. carries-list _ _ _ _ _ _ _ _ _ c.in-Cisco.is (by.2 which))
 
 pub returns-in-Fpm-clause-job : goal.returns-in-Fpm-clause-job
 returns-in-Fpm-clause-job g c =
     let by = c.import_frames.ensures.imports in
-    (by.0, by.1, λ which. carries-frames _ _ _ _ _ _ _ _ c.in-Fpm.is c.new-in-Fpm.ensures (by.2 which))
+    (by.0, by.1, λ which. carries-frames _ _ _ _ _ _ _ _ _ c.in-Fpm.is c.new-messages.ensures (by.2 which))
 
 pub returns-in-Iptables-clause-job : goal.returns-in-Iptables-clause-job
 returns-in-Iptables-clause-job g c =
-    let by = c.import-in-Iptables.ensures.imports in
-    (by.0, by.1, λ which. carries-chains _ _ _ _ _ _ _ _ _ _ c.in-Iptables.is c.new-in-Iptables.ensures (by.2 which))
+    let by = c.import_save.ensures.job in
+    (by.0, by.1, λ which. carries-save _ _ _ _ _ c.args.older.now _ _ _ _ c.in-Iptables.is (by.2 which))
 
 pub returns-in-Nft-clause-job : goal.returns-in-Nft-clause-job
 returns-in-Nft-clause-job g c =
     let by = c.import_chain.ensures.job in
-    (by.0, by.1, λ which. carries-ruleset _ _ _ _ _ _ _ _ _ c.in-Nft.is refl (by.2 which))
+    (by.0, by.1, λ which. carries-ruleset _ _ _ _ _ c.args.older.now _ _ _ _ c.in-Nft.is refl (by.2 which))

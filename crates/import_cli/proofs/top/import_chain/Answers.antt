@@ -1,7 +1,29 @@
-use Rattle.std.proofs.Common.{refl}
+use Rattle.std.proofs.Common.{[], refl}
+use Rattle.script_lines.proofs.Turns.{gives-none}
+use Rattle.script_lines.specs.Given.{counted}
+use Rattle.import_cli.specs.CommandLine.{Imports}
+use Rattle.import_cli.specs.declared.asked.Format.TheVariants.{Nft}
+use Rattle.import_cli.proofs.Carried.{carries-listed, since-refused, unread, wanting}
 use Rattle.import_cli.proofs.top.import_chain.Goals as goal
 
-pub returns-clause-job : goal.returns-clause-job
-returns-clause-job g c =
+pub returns-in-Ok-Ok-clause-job : goal.returns-in-Ok-Ok-clause-job
+returns-in-Ok-Ok-clause-job g c =
     let by = c.import_nft.ensures.imports in
-    (by.0, by.1, λ which. (_, (refl, c.as_bytes.ensures, c.as_bytes-2.ensures, c.as_bytes-3.ensures), by.2 which))
+    let found = rw c.in-Ok-Ok.field-0-is at c.in-Ok-Ok.ensures in
+    (by.0, by.1, λ which. carries-listed c.args.version c.args.chain.now c.args.leave_out c.args.older.now _ _ _ _ _ _ found (refl, c.as_bytes.ensures, c.as_bytes-in-Ok-Ok.ensures, c.as_bytes-in-Ok-Ok-2.ensures, c.as_slice.ensures.value) (by.2 which))
+
+pub returns-in-Ok-Err-clause-job : goal.returns-in-Ok-Err-clause-job
+returns-in-Ok-Err-clause-job g c =
+    let found = rw c.in-Ok-Err.field-0-is at c.in-Ok-Err.ensures in
+    ([], gives-none _ _, λ which. since-refused _ _ _ _ _ _ found (c.refuse_older.ensures.names which))
+
+pub returns-in-Ok-Err-clause-read : goal.returns-in-Ok-Err-clause-read
+returns-in-Ok-Err-clause-read g c = unread _ _ c.refuse_older.ensures.kind
+
+pub returns-in-Err-clause-job : goal.returns-in-Err-clause-job
+returns-in-Err-clause-job g c = (
+  [],
+  gives-none _ _,
+  λ which. wanting (Imports (Nft c.args.chain.now) c.args.version c.args.leave_out) c.args.older.now
+      (counted which (g.K.Sink.taken c.args.sink.now) (g.K.Sink.accepted c.args.sink.now)),
+)
