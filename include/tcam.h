@@ -93,7 +93,7 @@ enum tcam_error {
     TCAM_OK = 0,
     TCAM_NO_MANAGER = 1,    /* the handle is zeroed, or its manager was freed */
     TCAM_MADE_ALREADY = 2,  /* the handle has a manager */
-    TCAM_SLOTS_RANGE = 3,   /* 1 to 4,096 slots */
+    TCAM_SLOTS_RANGE = 3,   /* 1 to 1,048,576 slots */
     TCAM_NO_MODE = 4,       /* none of enum tcam_mode */
     TCAM_NO_PLACEMENT = 5,  /* none of enum tcam_placement */
     TCAM_PREFIX_LENGTH = 6, /* a prefix longer than 32 bits, or than 128 of IPv6 */
@@ -708,7 +708,7 @@ static inline const char *tcam_error_text(enum tcam_error error) {
     case TCAM_OK: return "done";
     case TCAM_NO_MANAGER: return "the handle has no manager";
     case TCAM_MADE_ALREADY: return "the handle has a manager already";
-    case TCAM_SLOTS_RANGE: return "slots are 1 to 4096";
+    case TCAM_SLOTS_RANGE: return "slots are 1 to 1048576";
     case TCAM_NO_MODE: return "no such mode";
     case TCAM_NO_PLACEMENT: return "no such placement";
     case TCAM_PREFIX_LENGTH: return "length past the address";
