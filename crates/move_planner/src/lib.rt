@@ -61,7 +61,7 @@
 //!
 //! # What is noted
 //! What each move's slot held before it goes into a second list (`undo`), as the move that puts it back. So the moves can be
-//! taken back, the last one first, also those of an insertion that ended for want of memory (`Moves::take_back`).
+//! taken back, the last one first, also those of an insertion that ended for want of memory (`Moves::make_back` each).
 //!
 //! # What it costs
 //! A chain's entries overlap one after the other at falling priorities. So with the new entry it has at most as many

@@ -20,7 +20,7 @@
 //! pairs, and its partners are named in that time too. Growth copies the block, which doubles as long as its places are
 //! numbers of 32 bits. The worst list, each entry over each other, has n (n - 1) / 2 pairs: 12 bytes times n squared,
 //! 201 MB at 4,096 entries and 51 GB at 65,536, where a scan takes none. The block may have room for twice as many, and a
-//! growth has the old block beside the new one. At 92,682 entries such a list has more pairs than places have numbers:
+//! growth has the old block beside the new one. At 92,683 entries such a list has more pairs than places have numbers:
 //! what overlaps so much finds no room there, whatever memory there is.
 //!
 //! # What isn't promised

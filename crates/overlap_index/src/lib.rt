@@ -52,7 +52,7 @@
 //! Only `new` and `add` take memory: 16 bytes an id beside the piece, which stands once, at most 96 a destination in the
 //! trie, and once pairs are kept 48 more an id, and 24 bytes a pair of ids that overlap, whose room doubles where it grows.
 //! The worst list, each piece over each other, has n (n - 1) / 2 pairs: 12 bytes times n squared, 201 MB at 4,096 ids and
-//! 51 GB at 65,536, in a block with room for up to twice as many; from 92,682 ids on it has more pairs than links can be
+//! 51 GB at 65,536, in a block with room for up to twice as many; from 92,683 ids on it has more pairs than links can be
 //! numbered, and `add` is refused.
 //!
 //! # What isn't promised

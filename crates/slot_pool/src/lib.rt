@@ -15,7 +15,7 @@
 //! nor one that goes is searched for. Only an id in three slots or more is, and one past the table.
 //!
 //! # Decided
-//! - **The sum of an id's slots stands in the place of their number**, in as many bytes. The number says that an entry that
+//! - **The sum of an id's slots stands in the place of their number**, eight bytes for four. The number says that an entry that
 //!   goes is in no other slot, and the sum says it too; but of an entry that moves up the number doesn't tell where to, and
 //!   each such move walked to the new slot.
 //! - **Free slots are marked in a tree, and what a planner marks in a flat row.** The free slots stay from change to change
@@ -133,7 +133,7 @@ impl Arrangement {
     }
 
     /// The least empty slot from `from` on and before `to`, or `None` exactly where no slot there is
-    /// empty. It looks no further than `to`.
+    /// empty.
     pub fn first_free(&self, from: u32, to: u32) -> Option<u32>
         requires { to ≤ length self.now }
         ensures { IsFirstFree self.now from to result }
