@@ -2,7 +2,6 @@
 use Rattle.std.proofs.Common.{◌≡◌, ℕ, Some, ◌≤◌, ◌+◌, ◌*◌, List, [], ◌∷◌, ◌++◌, length, map, refl, sym, subst, ap, arith, length-append}
 use Rattle.std.specs.List.{AllByRecursion, AllZip}
 use Rattle.std.proofs.lemmas.List.{length-map}
-use Rattle.slot_order.specs.Order.{most_slots}
 use Rattle.slot_pool.specs.Arrangement.{Slots}
 use Rattle.rule_model.specs.declared.Rule.{Rule}
 use Rattle.rule_model.specs.declared.IpVersion.{IpVersion}
@@ -115,7 +114,7 @@ module _ (mode : Mode) (bits : FieldBits) (state : State) (rules : List Rule) (b
   batch_tables = no_table made (batch_slots entries slots planned rewrites erased)
 
   -- and are few
-  pub batch_few : length (batch_writes entries slots planned rewrites erased) ≤ most_slots * (1 + most_slots) * length planned + length rewrites + length erased
+  pub batch_few : length (batch_writes entries slots planned rewrites erased) ≤ length slots * (1 + length slots) * length planned + length rewrites + length erased
   batch_few =
       let few = planned_few state old added live slots entries planned row in
       let all = length-append inserted (map (rewrite_write after) rewrites ++ map (erase_write after) erased) in

@@ -1,10 +1,8 @@
 -- Planned insertions: which they are on the device, within which bounds, and with which numbers.
-use Rattle.std.proofs.Common.{◌≡◌, ℕ, ◌+◌, ◌*◌, ◌≤◌, arith, List, [], ◌∷◌, ◌++◌, Contains, length-append, length, map, fold, max, mul-le-mul_left, mul-le-mul_right, refl, sym, ◌∙◌, subst, ap, ap₂}
+use Rattle.std.proofs.Common.{◌≡◌, ℕ, ◌+◌, ◌*◌, ◌≤◌, arith, List, [], ◌∷◌, ◌++◌, Contains, length-append, length, map, fold, max, mul-le-mul_left, refl, sym, ◌∙◌, subst, ap, ap₂}
 use Rattle.std.specs.List.{AllByRecursion, AllZip}
-use Rattle.std.proofs.Math.Nat.{mul-le-mul}
 use Rattle.std.specs.Prelude.{flat_map}
 use Rattle.std.proofs.lemmas.List.{length-map}
-use Rattle.slot_order.specs.Order.{most_slots}
 use Rattle.slot_order.specs.Chains.{BoundsMemberChains}
 use Rattle.slot_order.proofs.Lists.{contains_head, contains_tail}
 use Rattle.slot_pool.specs.Arrangement.{Slots}
@@ -106,14 +104,9 @@ few_made piece all entries size (p ∷ planned) (n ∷ made) are spans bound =
 
 -- which is one of the slots alone, as all ids that were live stand in the end
 pub planned_few : (state : State) (standing inserted : List RankedPiece) (live : List LivePiece) (slots : Slots) (entries : IdEntries) (planned : List Planned)
-    → IsPlannedRow state standing inserted live slots entries planned → length (planned_writes entries planned) ≤ most_slots * (1 + most_slots) * length planned
+    → IsPlannedRow state standing inserted live slots entries planned → length (planned_writes entries planned) ≤ length slots * (1 + length slots) * length planned
 planned_few state standing inserted live slots entries planned row =
-    let few : length slots ≤ most_slots = row.arranged.few in
-    let most : length (planned_writes entries planned) ≤ length slots * (1 + length slots) * length planned =
-    few_made piece all entries (length slots) planned (made_by entries piece state planned) done.as_planned (planned_spans live slots planned row.are_planned) bound in
-    let wide : length slots * (1 + length slots) ≤ most_slots * (1 + most_slots) = wider (length slots) few in
-    let all_of_them : length slots * (1 + length slots) * length planned ≤ most_slots * (1 + most_slots) * length planned = mul-le-mul_right (length planned) wide in
-    omega arith
+    few_made piece all entries (length slots) planned (made_by entries piece state planned) done.as_planned (planned_spans live slots planned row.are_planned) bound
   where
     piece : ℕ → RankedPiece
     piece = commit_piece live entries planned
@@ -123,9 +116,6 @@ planned_few state standing inserted live slots entries planned row =
 
     done : AreDone entries piece all live slots state planned
     done = commit_done state standing inserted live slots entries planned row
-
-    wider : (size : ℕ) → size ≤ most_slots → size * (1 + size) ≤ most_slots * (1 + most_slots)
-    wider size few = mul-le-mul few (let more : 1 + size ≤ (1 + most_slots) = omega arith in more)
 
     bound : BoundsMemberChains (over piece) (rank piece) (IsLive all) (length slots)
     bound = subst (BoundsMemberChains (over piece) (rank piece) (IsLive all)) (slots_kept slots planned) (standing_bound (over piece) (rank piece) (IsLive all) (slots_after slots planned) done.placed)

@@ -1,7 +1,6 @@
 -- After a planned restart the ids stand as they were planned, and the next commit may begin.
 use Rattle.std.proofs.Common.{◌≡◌, ℕ, ◌+◌, ◌-◌, ◌*◌, ◌≤◌, Option, None, Some, List, [], ◌++◌, length, filter, Contains, append_assoc, length-append, arith, refl, sym, ◌∙◌, subst, ap}
 use Rattle.std.specs.List.{AllByRecursion}
-use Rattle.slot_order.specs.Order.{most_slots}
 use Rattle.slot_order.proofs.Lists.{all_append}
 use Rattle.slot_pool.specs.Arrangement.{Slots}
 use Rattle.rule_model.specs.declared.Rule.{Rule}
@@ -118,12 +117,12 @@ module _ (device_slots : ℕ) (mode : Mode) (bits : FieldBits) (rules : List Rul
       (front_inside device_slots mode bits rules batch state done left twin live slots entries planned rewrites erased plan)
       (subst (λ n. AllByRecursion (IsInUse n) slot_part) size (in_use b)))
 
-  all_few : length writes ≤ length tables + 1 + (most_slots * (1 + most_slots) * length planned + length rewrites + length erased)
+  all_few : length writes ≤ length tables + 1 + (length slots * (1 + length slots) * length planned + length rewrites + length erased)
   all_few =
       let sum = length-append tables (twin_writes twin ++ slot_part) in
       let rest = length-append (twin_writes twin) slot_part in
       let one = twin_few twin in
-      let most = few b in
+      let most : length slot_part ≤ length slots * (1 + length slots) * length planned + length rewrites + length erased = few b in
       omega arith
 
   leads_on : LeadsOn (proposal mode bits rules batch) state live slots entries planned rewrites erased writes

@@ -5,7 +5,7 @@ use Rattle.std.specs.List.{AllByRecursion, AllZip, filter_map}
 use Rattle.std.proofs.lemmas.List.{get_or_past, length-map}
 use Rattle.std.proofs.lemmas.List.Elements.{Contains-append_left, Contains-append_right, Contains-append_cases}
 use Rattle.std.proofs.Math.Seq.{take-append-add}
-use Rattle.slot_order.specs.Order.{slot, most_slots}
+use Rattle.slot_order.specs.Order.{slot}
 use Rattle.slot_order.proofs.Images.{entries, slot_entries, stands_for}
 use Rattle.slot_order.proofs.Lists.{all_append}
 use Rattle.slot_moves.proofs.Once.{AllOnce}
@@ -172,7 +172,7 @@ module _ (b : Begun) where
       (erases_inside (state_after base (telling b)) (filter_map erased_by b.left) (erasing b) erases)))
 
   -- and are few
-  pub few : length (inserting b ++ (telling b ++ erasing b)) ≤ most_slots * (1 + most_slots) * length b.planned + length b.rewrites + length b.erased
+  pub few : length (inserting b ++ (telling b ++ erasing b)) ≤ length b.slots * (1 + length b.slots) * length b.planned + length b.rewrites + length b.erased
   few =
       let first = planned_few b.start b.plan.stands.standing (coming b) b.live b.slots b.entries b.planned (row b) in
       let all = length-append (inserting b) (telling b ++ erasing b) in

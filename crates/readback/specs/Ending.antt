@@ -1,7 +1,6 @@
 -- Where a planned restart leads.
 use Rattle.std.specs.Prelude.{◌≡◌, ℕ, ◌+◌, ◌*◌, ◌≤◌, Option, List, length}
 use Rattle.std.specs.List.{AllByRecursion}
-use Rattle.slot_order.specs.Order.{most_slots}
 use Rattle.slot_pool.specs.Arrangement.{Slots}
 use Rattle.rule_model.specs.declared.Rule.{Rule}
 use Rattle.rule_store.specs.declared.Mode.{Mode}
@@ -27,7 +26,7 @@ use Rattle.readback.specs.Restart.{IsPlannedRestart}
 -- they are those of the new set's pieces, each with its entry.
 pub record LeadsOn (asked : Proposal) (state : State) (live : List LivePiece) (slots : Slots) (entries : IdEntries) (planned : List Planned) (rewrites : List Rewrite) (erased : List ℕ) (writes : List Write) : Type 0 where
   pub in_use : AllByRecursion (IsInUse (length state.slots)) writes
-  pub few : length writes ≤ length (fresh_writes asked.mode asked.bits asked.rules asked.batch state) + 1 + (most_slots * (1 + most_slots) * length planned + length rewrites + length erased)
+  pub few : length writes ≤ length (fresh_writes asked.mode asked.bits asked.rules asked.batch state) + 1 + (length slots * (1 + length slots) * length planned + length rewrites + length erased)
   pub leads : state_after state writes
       ≡ with_slots (state_after state (fresh_writes asked.mode asked.bits asked.rules asked.batch state)) (contents (rewritten_entries entries rewrites) (erased_slots (slots_after slots planned) erased))
   pub entries_are : AreEntriesOf (set_pieces asked.mode (bits_with asked.mode asked.rules asked.batch asked.bits) (set_after asked.rules asked.batch)) (erased_live (live_after live planned) erased) (rewritten_entries entries rewrites)
