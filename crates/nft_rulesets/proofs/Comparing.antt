@@ -30,7 +30,7 @@ use Rattle.nft_rulesets.proofs.Holding.{and-or, and-under, and-whole, blocks-are
 
 -- ---- tests that meet: by the list of a rule that jumps to another one
 
-abbrev found_hold : Option Tests → Key → Bool
+abbrev pub found_hold : Option Tests → Key → Bool
 found_hold None key = false
 found_hold (Some tests) key = tests_hold tests key
 
@@ -60,7 +60,7 @@ walked-by false y = refl
 walked : (a b : Tests) (key : Key) → verdict (two_rules a b) 2 0 false key ≡ (tests_hold a key && tests_hold b key)
 walked a b key = walked-by (tests_hold a key) (tests_hold b key)
 
-meet-hold : ListsAnswerAsWalks → (a b : Tests) (key : Key) → found_hold (meet a b) key ≡ (tests_hold a key && tests_hold b key)
+pub meet-hold : ListsAnswerAsWalks → (a b : Tests) (key : Key) → found_hold (meet a b) key ≡ (tests_hold a key && tests_hold b key)
 meet-hold law a b key =
     sym (listed (meet a b) key)
     ∙ law 1 2 0 (two_rules a b) false (under (meet a b) (Some true) []) key (written-two a b)

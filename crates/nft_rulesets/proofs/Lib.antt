@@ -5,3 +5,4 @@ mod Holding
 mod Comparing
 mod Looking
 mod Elements
+mod Apart

@@ -8,14 +8,17 @@ use Rattle.rule_model.specs.AddressBlock.{block_holds}
 use Rattle.rule_model.specs.Key.{IsKey}
 use Rattle.written_chains.specs.declared.meets.Tests.{Tests}
 use Rattle.written_chains.specs.Meets.{tests_hold}
+use Rattle.nft_rulesets.specs.declared.asked.Asked.{Asked}
 use Rattle.nft_rulesets.specs.declared.fields.Field.{Field}
 use Rattle.nft_rulesets.specs.declared.fields.Field.TheVariants as field
 use Rattle.nft_rulesets.specs.declared.spans.Span.{Span}
 use Rattle.nft_rulesets.specs.Concats.{element_parts, element_product, elements_product}
+use Rattle.nft_rulesets.specs.Looks.{pair_in}
 use Rattle.nft_rulesets.specs.Matches.{of_same}
 use Rattle.nft_rulesets.specs.Spans.{blocks, outside_up_to}
 use Rattle.nft_rulesets.specs.Products.{compared}
 use Rattle.nft_rulesets.specs.Values.{value_span}
+use Rattle.nft_rulesets.specs.Verdicts.{are_apart, pair_held}
 
 -- a number is in a span, and in one of several
 abbrev pub span_holds : Span → ℕ → Bool
@@ -109,3 +112,14 @@ abbrev pub ElementsHoldTogether : Type 0
 ElementsHoldTogether = (version : IpVersion) (fields : List Field) (tests both : List Tests) (items : Items) (key : Key)
     → IsKey key → elements_product version fields tests items ≡ Ok both
     → any_holds both key ≡ (any_holds tests key && elements_hold version fields items key)
+
+-- one of some pairs of a map has a packet
+abbrev pub pairs_hold : IpVersion → List Field → List Tests → Items → Key → Bool
+pairs_hold version fields tests no_items key = false
+pairs_hold version fields tests (item value items) key =
+    any_holds (pair_held version fields tests (pair_in value)) key || pairs_hold version fields tests items key
+
+-- Of the pairs of a map that are apart none has a packet of these tests, which are those of the pairs before it that let packets go on.
+abbrev pub PairsAreApart : Type 0
+PairsAreApart = (asked : Asked) (all : Items) (fields : List Field) (tests passed : List Tests) (items : Items) (key : Key)
+    → are_apart asked all fields tests passed items ≡ true → any_holds passed key ≡ true → pairs_hold asked.version fields tests items key ≡ false

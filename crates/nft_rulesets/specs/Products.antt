@@ -1,5 +1,5 @@
 -- The tests that a comparison is: each one holds some of the packets, and each of those packets is held by one.
-use Rattle.std.specs.Prelude.{◌≡◌, ℕ, ◌+◌, ◌-◌, ◌*◌, ◌^◌, Bool, true, false, not, ◌&&◌, nat_le, Result, Ok, Err, Option, Some, None, List, [], ◌∷◌, ◌++◌, length, map, if◌then◌else◌}
+use Rattle.std.specs.Prelude.{◌≡◌, ℕ, ◌+◌, ◌-◌, ◌*◌, ◌^◌, Bool, true, false, not, ◌&&◌, ◌||◌, nat_le, Result, Ok, Err, Option, Some, None, is_some, List, [], ◌∷◌, ◌++◌, length, map, if◌then◌else◌}
 use Rattle.std.specs.List.{list_all, range_with_len}
 use Rattle.rule_model.specs.AddressBlock.{AddressBlock}
 use Rattle.rule_model.specs.PortRange.{PortRange}
@@ -95,6 +95,15 @@ meets_one tests (other ∷ others) = met_tests (meet tests other) ++ meets_one t
 abbrev pub meets_all : List Tests → List Tests → List Tests
 meets_all [] others = []
 meets_all (tests ∷ more) others = meets_one tests others ++ meets_all more others
+
+-- some packet is held by one of these and by one of others
+abbrev pub is_met : Tests → List Tests → Bool
+is_met tests [] = false
+is_met tests (other ∷ others) = is_some (meet tests other) || is_met tests others
+
+abbrev pub are_met : List Tests → List Tests → Bool
+are_met [] others = false
+are_met (tests ∷ more) others = is_met tests others || are_met more others
 
 -- a port of any protocol is said where the rule tests before that the packet has ports
 abbrev pub has_no_proto : Option ℕ → Bool

@@ -128,6 +128,7 @@ why_text why.Set = codes "no set of values"
 why_text why.Ports = codes "no ports"
 why_text why.Behind = codes "behind a verdict"
 why_text why.Target = codes "target"
+why_text why.Overlap = codes "overlapping pairs"
 why_text why.Many = codes "too many lines"
 why_text why.Deep = codes "jumps too deep"
 

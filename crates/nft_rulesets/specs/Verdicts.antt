@@ -1,6 +1,7 @@
 -- What becomes of packets: verdicts, and maps that have one for each value.
-use Rattle.std.specs.Prelude.{◌≡◌, ℕ, true, false, not, ◌||◌, Result, Ok, Err, Option, Some, None, List, [], ◌∷◌, ◌++◌, map, codes, if◌then◌else◌}
+use Rattle.std.specs.Prelude.{◌≡◌, ℕ, Bool, true, false, not, ◌&&◌, ◌||◌, Result, Ok, Err, Option, Some, None, List, [], ◌∷◌, ◌++◌, map, codes, if◌then◌else◌}
 use Rattle.std.specs.Str.{bytes_eq}
+use Rattle.rule_model.specs.declared.IpVersion.{IpVersion}
 use Rattle.json.specs.Find.{as_array, get}
 use Rattle.json.specs.Json.{Json, Items, no_items, item}
 use Rattle.written_chains.specs.declared.meets.Tests.{Tests}
@@ -18,7 +19,7 @@ use Rattle.nft_rulesets.specs.Concats.{concat_at, element_product, parts_in}
 use Rattle.nft_rulesets.specs.Defined.{elements, place_of}
 use Rattle.nft_rulesets.specs.Looks.{has_members, pair_in, sole, text_at}
 use Rattle.nft_rulesets.specs.Matches.{are_absent, field_of, fields_in}
-use Rattle.nft_rulesets.specs.Products.{pair_tests}
+use Rattle.nft_rulesets.specs.Products.{are_met, pair_tests}
 use Rattle.nft_rulesets.specs.Values.{element_span, listed_items, name_in, named_items, set_in}
 
 -- ---- a verdict
@@ -145,8 +146,59 @@ parts_pairs asked all chain tests fields no_items = Ok []
 parts_pairs asked all chain tests fields (item value items) =
     before_rules (parts_decided asked all chain tests fields (pair_in value)) (parts_pairs asked all chain tests fields items)
 
+-- Its pairs may have packets in common: such a packet gets the verdict of the first one that holds it, and where that lets it go
+-- on, it goes on behind the map. In a list it would meet the pairs behind that one, so a map in which a pair has packets of
+-- one before it that lets them go on isn't said.
+
+-- a verdict lets packets go on to what is behind it, a jump those that come back
+abbrev pub lets_on : Verdict → Bool
+lets_on (verdict.Decides permits) = false
+lets_on verdict.Returns = false
+lets_on (verdict.Jumps callee) = true
+lets_on (verdict.Goes callee) = false
+lets_on verdict.Continues = true
+
+abbrev pub found_lets_on : Result Verdict Why → Bool
+found_lets_on (Ok found) = lets_on found
+found_lets_on (Err reason) = false
+
+abbrev pub sole_lets_on : Asked → Items → Option (List ℕ × Json) → Bool
+sole_lets_on asked all None = false
+sole_lets_on asked all (Some (key, body)) = found_lets_on (verdict_of asked all key body)
+
+-- a pair does
+abbrev pub pair_lets_on : Asked → Items → Option (Json × Json) → Bool
+pair_lets_on asked all None = false
+pair_lets_on asked all (Some (value, to)) = sole_lets_on asked all (sole to)
+
+-- the tests of a pair; none, if they aren't said
+abbrev pub tests_or_none : Result (List Tests) Why → List Tests
+tests_or_none (Ok tests) = tests
+tests_or_none (Err reason) = []
+
+abbrev pub pair_held : IpVersion → List Field → List Tests → Option (Json × Json) → List Tests
+pair_held version fields tests None = []
+pair_held version fields tests (Some (value, to)) = tests_or_none (element_product version fields tests value)
+
+-- the tests of pairs that let packets go on, with those of one more if it does
+abbrev pub passed_on : Bool → List Tests → List Tests → List Tests
+passed_on true passed held = passed ++ held
+passed_on false passed held = passed
+
+-- no pair has packets of these tests, or of a pair before it that lets them go on
+abbrev pub are_apart : Asked → Items → List Field → List Tests → List Tests → Items → Bool
+are_apart asked all fields tests passed no_items = true
+are_apart asked all fields tests passed (item value items) =
+    not (are_met passed (pair_held asked.version fields tests (pair_in value)))
+    && are_apart asked all fields tests
+    (passed_on (pair_lets_on asked all (pair_in value)) passed (pair_held asked.version fields tests (pair_in value))) items
+
+abbrev pub apart_pairs : Asked → Items → ℕ → List Tests → List Field → Items → Result (List ChainRule) Why
+apart_pairs asked all chain tests fields items =
+    if not (are_apart asked all fields tests [] items) then Err why.Overlap else parts_pairs asked all chain tests fields items
+
 abbrev pub parts_items : Asked → Items → ℕ → List Tests → List Field → Result Items Why → Result (List ChainRule) Why
-parts_items asked all chain tests fields (Ok items) = parts_pairs asked all chain tests fields items
+parts_items asked all chain tests fields (Ok items) = apart_pairs asked all chain tests fields items
 parts_items asked all chain tests fields (Err reason) = Err reason
 
 abbrev pub fields_mapped : Asked → Items → ℕ → List Tests → List Field → Option Json → Result (List ChainRule) Why

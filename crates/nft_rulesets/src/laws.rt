@@ -1,6 +1,6 @@
 //! Laws as calls: each makes nothing, and its contract is the law.
 
-ghost use Rattle.nft_rulesets.specs.Laws.{BlocksAreTheSpan, ComparisonsHoldWhatTheySay, ElementsHoldTogether, OutsideIsTheRest, PartsHoldTogether};
+ghost use Rattle.nft_rulesets.specs.Laws.{BlocksAreTheSpan, ComparisonsHoldWhatTheySay, ElementsHoldTogether, OutsideIsTheRest, PairsAreApart, PartsHoldTogether};
 
 use written_chains::lists_answer_as_walks;
 
@@ -32,6 +32,13 @@ pub fn parts_hold_together()
 /// A comparison with a set of such elements leaves those that one of them holds.
 pub fn elements_hold_together()
     ensures { ElementsHoldTogether }
+{
+    lists_answer_as_walks();
+}
+
+/// Of a map of fields together that is said no pair has a packet of one before it that lets packets go on.
+pub fn pairs_are_apart()
+    ensures { PairsAreApart }
 {
     lists_answer_as_walks();
 }

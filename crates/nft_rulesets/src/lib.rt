@@ -31,7 +31,8 @@
 //!   fields together, where a part before it does.
 //! - **Fields together aren't negated**: what no element holds is a list of lines for each of them, met with one another,
 //!   and that would be too many already for small sets. A map of them is in the order that it is printed in, which is that
-//!   by which the kernel looks: it takes an element into another one only behind it.
+//!   by which the kernel looks: it takes an element into another one only behind it. Where a pair lets packets go on, they go
+//!   on behind the map, and in a list they would meet the pairs behind it: a map where one of those has some isn't said.
 #![tactic(auto)]
 
 mod asked;
@@ -57,6 +58,6 @@ mod why;
 pub use asked::Asked;
 pub use laws::{
     blocks_are_the_span, comparisons_hold_what_they_say, elements_hold_together,
-    outside_is_the_rest, parts_hold_together,
+    outside_is_the_rest, pairs_are_apart, parts_hold_together,
 };
 pub use top::import_nft;

@@ -1,8 +1,8 @@
 //! The tests that a comparison is.
 
-ghost use Rattle.std.specs.Prelude.{◌≡◌, ◌≤◌, ◌*◌, ◌++◌, ◌∷◌, [], Ok, Err, Some, None, true, IfOk, OnOk, MatchResult, length, map, false};
+ghost use Rattle.std.specs.Prelude.{◌≡◌, ◌≤◌, ◌*◌, ◌++◌, ◌∷◌, [], Ok, Err, Some, None, true, IfOk, OnOk, MatchResult, length, map, false, is_some};
 ghost use Rattle.nft_rulesets.specs.Spans.{blocks};
-ghost use Rattle.nft_rulesets.specs.Products.{all_have_ports, all_tests, are_few, compared, compared_spans, is_right, meets_all, meets_one, met_tests, met_within, pair_tests, product, proto_test, proto_tests, receiver_test, source_test, span_tests, IsPut, dports_test, sports_test};
+ghost use Rattle.nft_rulesets.specs.Products.{all_have_ports, all_tests, are_few, are_met, compared, compared_spans, is_met, is_right, meets_all, meets_one, met_tests, met_within, pair_tests, product, proto_test, proto_tests, receiver_test, source_test, span_tests, IsPut, dports_test, sports_test};
 
 use crate::fields::Field;
 use crate::spans::{Span, outside_up_to, put_blocks};
@@ -224,6 +224,30 @@ pub(crate) fn meets_all(
         put_meets(&mut both, one, others)?;
     }
     Ok(both)
+}
+
+/// Whether some packet is held by these tests and by one of others.
+fn is_met(tests: &Tests, others: &[Tests]) -> bool
+    ensures { result ≡ is_met tests.now others.now }
+{
+    for other in others {
+        if meet(tests, other).is_some() {
+            return true;
+        }
+    }
+    false
+}
+
+/// Whether some packet is held by one of these tests and by one of others.
+pub(crate) fn are_met(tests: &[Tests], others: &[Tests]) -> bool
+    ensures { result ≡ are_met tests.now others.now }
+{
+    for one in tests {
+        if is_met(one, others) {
+            return true;
+        }
+    }
+    false
 }
 
 /// Whether each of some tests holds packets that have ports.

@@ -1,14 +1,15 @@
 //! Comparisons and maps of fields together (`ip saddr . tcp dport`).
 
-ghost use Rattle.std.specs.Prelude.{◌≡◌, ◌++◌, ◌∷◌, [], Ok, Err, Some, None, IfOk, MatchResult, option_map, codes};
+ghost use Rattle.std.specs.Prelude.{◌≡◌, ◌++◌, ◌∷◌, [], Ok, Err, Some, None, IfOk, OnOk, MatchResult, option_map, codes};
 ghost use Rattle.std.specs.List.{list_any};
 ghost use Rattle.json.specs.Find.{as_array, get};
 ghost use Rattle.json.specs.Value.{items_view, value_view};
 ghost use Rattle.nft_rulesets.specs.Concats.{concat_at, parts_in};
 ghost use Rattle.nft_rulesets.specs.Looks.{sole, pair_in};
 ghost use Rattle.nft_rulesets.specs.Matches.{are_absent, field_behind, field_of, fields_by, fields_from, fields_in, is_absent, left_matched, matched, part_field, parts_compared, parts_listed, parts_matched, parts_named, parts_operated, parts_right};
+ghost use Rattle.nft_rulesets.specs.Products.{are_met};
 ghost use Rattle.nft_rulesets.specs.Values.{set_in};
-ghost use Rattle.nft_rulesets.specs.Verdicts.{fields_mapped, mapped, pairs_of, parts_decided, parts_items, parts_mapped, parts_pairs, ArePut};
+ghost use Rattle.nft_rulesets.specs.Verdicts.{apart_pairs, are_apart, fields_mapped, found_lets_on, mapped, pair_held, pair_lets_on, pairs_of, parts_decided, parts_items, parts_mapped, parts_pairs, passed_on, sole_lets_on, tests_or_none, ArePut};
 
 use crate::asked::Asked;
 use crate::concats::{concat_in, element_product, elements_product};
@@ -16,8 +17,9 @@ use crate::defined::elements;
 use crate::fields::{Field, field_of};
 use crate::looks::{has_members, items_of, pair_in, sole};
 use crate::matches::{matched_field, operator_of};
+use crate::products::are_met;
 use crate::values::{name_in, set_in};
-use crate::verdicts::{plain_pairs, put_decided, put_mapped_field, verdict_of};
+use crate::verdicts::{found_lets_on, plain_pairs, put_decided, put_mapped_field, verdict_of};
 use crate::why::Why;
 use json::Value;
 use rule_model::IpVersion;
@@ -252,6 +254,97 @@ fn put_parts_pairs(
     Ok(Ok(()))
 }
 
+/// Whether a verdict of a map lets packets go on.
+fn sole_lets_on(asked: &Asked, all: &[Value], to: &Value) -> bool
+    ensures { result ≡ sole_lets_on asked.now (items_view all.now) (sole (value_view to.now)) }
+{
+    match sole(to) {
+        Some(found) => found_lets_on(verdict_of(asked, all, found.0, &found.1)),
+        None => false,
+    }
+}
+
+/// Whether a pair does.
+fn pair_lets_on(asked: &Asked, all: &[Value], pair: &Value) -> bool
+    ensures { result ≡ pair_lets_on asked.now (items_view all.now) (pair_in (value_view pair.now)) }
+{
+    match pair_in(pair) {
+        Some(both) => sole_lets_on(asked, all, both.1),
+        None => false,
+    }
+}
+
+/// The tests of a pair; none, if they aren't said.
+fn pair_held(
+    alloc: Global,
+    version: IpVersion,
+    fields: &[Field],
+    tests: &[Tests],
+    pair: &Value,
+) -> Result<Vec<Tests>, AllocError>
+    ensures { IfOk result (λ held. held.items ≡ pair_held version fields.now tests.now (pair_in (value_view pair.now))) }
+{
+    match pair_in(pair) {
+        Some(both) => match element_product(alloc, version, fields, tests, both.0)? {
+            Ok(held) => Ok(held),
+            Err(_) => Ok(Vec::new(alloc)),
+        },
+        None => Ok(Vec::new(alloc)),
+    }
+}
+
+/// Puts the tests of a pair to those of the pairs that let packets go on, if it does.
+fn put_passed(passed: &mut Vec<Tests>, on: bool, held: &[Tests]) -> Result<(), AllocError>
+    ensures { OnOk result (passed.new.items ≡ passed_on on passed.old.items held.now) }
+{
+    if on {
+        passed.extend_from_slice(held)?;
+    }
+    Ok(())
+}
+
+/// Whether no pair of a map has packets of one before it that lets them go on: they would go on behind the map, and in a list
+/// they would meet the later pair.
+fn are_apart(
+    alloc: Global,
+    asked: &Asked,
+    all: &[Value],
+    fields: &[Field],
+    tests: &[Tests],
+    pairs: &[Value],
+) -> Result<bool, AllocError>
+    ensures { IfOk result (λ apart. apart ≡ are_apart asked.now (items_view all.now) fields.now tests.now [] (items_view pairs.now)) }
+{
+    let mut passed: Vec<Tests> = Vec::new(alloc);
+    for pair in pairs {
+        let held = pair_held(alloc, asked.version, fields, tests, pair)?;
+        if are_met(passed.as_slice(), held.as_slice()) {
+            return Ok(false);
+        }
+        put_passed(&mut passed, pair_lets_on(asked, all, pair), held.as_slice())?;
+    }
+    Ok(true)
+}
+
+/// Puts the rules there of all pairs of a map whose pairs are apart. Err: why they aren't said.
+fn put_apart(
+    alloc: Global,
+    into: &mut Vec<ChainRule>,
+    asked: &Asked,
+    all: &[Value],
+    chain: usize,
+    tests: &[Tests],
+    fields: &[Field],
+    pairs: &[Value],
+) -> Result<Result<(), Why>, AllocError>
+    ensures { IfOk result (λ answer. ArePut answer (apart_pairs asked.now (items_view all.now) chain tests.now fields.now (items_view pairs.now)) into.old.items into.new.items) }
+{
+    if !are_apart(alloc, asked, all, fields, tests, pairs)? {
+        return Ok(Err(Why::Overlap));
+    }
+    put_parts_pairs(alloc, into, asked, all, chain, tests, fields, pairs)
+}
+
 /// Puts the rules there of the pairs of a map that stands here, or has a name.
 fn put_parts_listed(
     alloc: Global,
@@ -267,11 +360,11 @@ fn put_parts_listed(
 {
     match name_in(listed) {
         Some(name) => match elements(asked, "map", name, all) {
-            Some(pairs) => put_parts_pairs(alloc, into, asked, all, chain, tests, fields, pairs),
+            Some(pairs) => put_apart(alloc, into, asked, all, chain, tests, fields, pairs),
             None => Ok(Err(Why::Set)),
         },
         None => match plain_pairs(listed) {
-            Ok(pairs) => put_parts_pairs(alloc, into, asked, all, chain, tests, fields, pairs),
+            Ok(pairs) => put_apart(alloc, into, asked, all, chain, tests, fields, pairs),
             Err(why) => Ok(Err(why)),
         },
     }

@@ -4,7 +4,7 @@ ghost use Rattle.std.specs.Prelude.{◌≡◌, ◌++◌, ◌∷◌, [], Ok, Err,
 ghost use Rattle.json.specs.Find.{get};
 ghost use Rattle.json.specs.Value.{items_view, value_view};
 ghost use Rattle.nft_rulesets.specs.Looks.{sole, pair_in, text_at};
-ghost use Rattle.nft_rulesets.specs.Verdicts.{both_decided, decided, field_mapped, go_to, items_decided, jump_to, leads_to, mapped_by, pairs_decided, pairs_of, plain_pairs, verdict_of, verdict_rules, with_target, ArePut};
+ghost use Rattle.nft_rulesets.specs.Verdicts.{both_decided, decided, field_mapped, found_lets_on, go_to, items_decided, jump_to, leads_to, lets_on, mapped_by, pairs_decided, pairs_of, plain_pairs, verdict_of, verdict_rules, with_target, ArePut};
 ghost use Rattle.nft_rulesets.specs.Matches.{field_of};
 ghost use Rattle.nft_rulesets.specs.Values.{set_in};
 
@@ -88,6 +88,26 @@ pub(crate) fn verdict_of(
         go_to(leads_to(asked, all, body))
     } else {
         Err(Why::Statement)
+    }
+}
+
+/// Whether a verdict lets packets go on to what is behind it, a jump those that come back.
+fn lets_on(verdict: Verdict) -> bool
+    ensures { result ≡ lets_on verdict }
+{
+    match verdict {
+        Verdict::Jumps(_) | Verdict::Continues => true,
+        Verdict::Decides(_) | Verdict::Returns | Verdict::Goes(_) => false,
+    }
+}
+
+/// Whether it is one, and does.
+pub(crate) fn found_lets_on(verdict: Result<Verdict, Why>) -> bool
+    ensures { result ≡ found_lets_on verdict }
+{
+    match verdict {
+        Ok(found) => lets_on(found),
+        Err(_) => false,
     }
 }
 

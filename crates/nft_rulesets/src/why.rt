@@ -24,6 +24,8 @@ pub(crate) enum Why {
     Behind,
     /// There is no chain to which it leads.
     Target,
+    /// A pair of a map has packets of one before it that lets them go on.
+    Overlap,
     /// There would be too many lines.
     Many,
     /// Jumps are nested too deep, or lead in a circle.
@@ -45,6 +47,7 @@ impl Why {
             Why::Ports => "no ports",
             Why::Behind => "behind a verdict",
             Why::Target => "target",
+            Why::Overlap => "overlapping pairs",
             Why::Many => "too many lines",
             Why::Deep => "jumps too deep",
         }
