@@ -114,3 +114,11 @@ since-file = refl
 since-of-routes : import_job (codes "tcam" ∷ codes "import" ∷ codes "ip-routes" ∷ codes "--since=old" ∷ []) ≡ NoJob
 unfolding the_declaration
 since-of-routes = refl
+
+since-no-file : import_job (codes "tcam" ∷ codes "import" ∷ codes "iptables" ∷ codes "--since=" ∷ []) ≡ NoJob
+unfolding the_declaration
+since-no-file = refl
+
+since-empty-file : import_job (codes "tcam" ∷ codes "import" ∷ codes "nft" ∷ codes "--since" ∷ [] ∷ []) ≡ NoJob
+unfolding the_declaration
+since-empty-file = refl

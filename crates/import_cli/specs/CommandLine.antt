@@ -6,6 +6,7 @@ use Rattle.clap.specs.Simple.{App, new_app, new_rule, on_top, with_rule, with_su
 use Rattle.clap.specs.Faults.{fault_of}
 use Rattle.clap.specs.Kinds.{Kinds}
 use Rattle.clap.specs.declared.builder.action.ArgAction.TheVariants.{Set, SetTrue}
+use Rattle.clap.specs.declared.builder.value_parser.ValueParser.TheVariants.{NonEmptyString}
 use Rattle.clap.specs.declared.error.kind.ErrorKind.{ErrorKind}
 use Rattle.clap.specs.declared.error.kind.ErrorKind.TheVariants as kind
 use Rattle.rule_model.specs.declared.IpVersion.{IpVersion}
@@ -53,9 +54,9 @@ chain_option = record (new_rule (codes "chain")) { long = Some (codes "chain"); 
 unfoldable pub in_option : Rule
 in_option = record (new_rule (codes "in")) { long = Some (codes "in"); action = Some Set }
 
--- --since, a word
+-- --since, a word, and no empty one: no file has that name
 unfoldable pub since_option : Rule
-since_option = record (new_rule (codes "since")) { long = Some (codes "since"); action = Some Set }
+since_option = record (new_rule (codes "since")) { long = Some (codes "since"); action = Some Set; parser = Some NonEmptyString }
 
 -- a subcommand for imports
 unfoldable pub import_app : App

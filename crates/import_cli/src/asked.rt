@@ -7,6 +7,7 @@ ghost use Rattle.import_cli.specs.CommandLine.{NoJob, asked_by, chain_at, chain_
 
 use crate::chain_name::ChainName;
 use crate::list_name::ListName;
+use clap::builder::ValueParser;
 use clap::error::ErrorKind;
 use clap::{Arg, ArgAction, ArgMatches, Command, Error};
 use iptables::{FaceName, Hook};
@@ -103,7 +104,7 @@ fn in_arg<'a>(alloc: Global) -> Arg<'a>
     Arg::new(alloc, "in").long("in").action(ArgAction::Set)
 }
 
-/// The script of an older list.
+/// The script of an older list: a file, whose name has a byte at least.
 fn since_arg<'a>(alloc: Global) -> Arg<'a>
     ensures rule { rule_of result ≡ since_option }
     ensures global { result.global ≡ false }
@@ -111,6 +112,7 @@ fn since_arg<'a>(alloc: Global) -> Arg<'a>
     Arg::new(alloc, "since")
         .long("since")
         .action(ArgAction::Set)
+        .value_parser(ValueParser::NonEmptyString)
 }
 
 /// The subcommand for imports.

@@ -3,10 +3,10 @@ use Rattle.std.proofs.Common.{◌≡◌, ◌⊎◌, inl, inr, ◌≤◌, ◌+◌
 use Rattle.std.proofs.lemmas.Bool.{le-leb}
 use Rattle.kept_numbers.specs.declared.words.OlderLine.{OlderLine}
 use Rattle.kept_numbers.specs.Kept.{kept}
-use Rattle.kept_numbers.specs.Laws.{AreKept, NewAreByTens, NumbersRise, Rises, SameAgain, numbers_of, words_of}
+use Rattle.kept_numbers.specs.Laws.{AreKept, HasRoom, KeptWhereRoom, NewAreByTens, NumbersRise, Rises, SameAgain, numbers_of, words_of}
 use Rattle.kept_numbers.specs.Numbered.{numbered, numbers_for, or_anew, tens}
 use Rattle.kept_numbers.proofs.Places.{kept-again, kept-length, kept-tops, new-wait}
-use Rattle.kept_numbers.proofs.Rising.{AreTops, given-again, length-tens, numbered-kept, numbered-length, numbered-rises, tens-rise}
+use Rattle.kept_numbers.proofs.Rising.{AreTops, given-again, length-tens, numbered-kept, numbered-length, numbered-rises, numbered-room, room-numbered, tens-rise}
 
 pub same-again : SameAgain
 same-again older rises =
@@ -34,6 +34,19 @@ rise-by marks count None is tops many few = (tens-rise 0 count (omega (arith, fe
 pub numbers-rise : NumbersRise
 numbers-rise older lines have few =
     rise-by (kept older lines) (length lines) (numbered 0 0 (kept older lines)) refl (kept-tops older lines have) (kept-length older lines) few
+
+-- ---- by whether there is room
+
+room-by : (marks : List (Option ℕ)) (count : ℕ) (found : Option (List ℕ)) → numbered 0 0 marks ≡ found
+    → (HasRoom 0 0 marks → AreKept marks (or_anew count found).1 × ((or_anew count found).0 ≡ false)) × ((or_anew count found).0 ≡ false → HasRoom 0 0 marks)
+room-by marks count (Some numbers) is = (λ room. (numbered-kept 0 0 marks numbers is, refl), λ same. numbered-room 0 0 marks numbers is)
+room-by marks count None is = (λ room. absurd (no-numbers (room-numbered 0 0 marks room)), λ same. absurd (let bad : true ≡ false = same in cc))
+  where
+    no-numbers : ((numbers : List ℕ) × (numbered 0 0 marks ≡ Some numbers)) → ⊥
+    no-numbers (numbers, found) = let bad : ◌≡◌ {A = Option (List ℕ)} None (Some numbers) = sym is ∙ found in cc
+
+pub kept-where-room : KeptWhereRoom
+kept-where-room older lines = room-by (kept older lines) (length lines) (numbered 0 0 (kept older lines)) refl
 
 -- ---- by what the code found
 

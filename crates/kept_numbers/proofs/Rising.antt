@@ -5,7 +5,7 @@ use Rattle.std.proofs.lemmas.Bool.{le-leb, lt-leb, leb-true, leb-false}
 use Rattle.std.proofs.lemmas.List.{drop_at, drop_all, drop_more}
 use Rattle.std.proofs.Math.Nat.{mul-le-mul_left}
 use Rattle.std.proofs.lemmas.Nat.{div-add-mod', div_below, le-div}
-use Rattle.kept_numbers.specs.Laws.{AreKept, Rises}
+use Rattle.kept_numbers.specs.Laws.{AreKept, HasRoom, Rises}
 use Rattle.kept_numbers.specs.Numbered.{numbered, spread, spread_before, tens}
 
 -- ---- parts of what lies between two numbers
@@ -167,6 +167,26 @@ numbered-kept low wait (Some number ∷ marks) numbers is =
     let behind : drop wait numbers ≡ number ∷ given.rest =
     ap (λ (l : List ℕ). drop wait l) given.numbers_are ∙ drop_at (spread low (number - low) (wait + 1) 1 wait) (number ∷ given.rest) wait (length-spread low (number - low) (wait + 1) 1 wait) in
     subst (λ (l : List ℕ). AreKept (Some number ∷ marks) l) (sym behind) (refl, numbered-kept number 0 marks given.rest given.found)
+
+-- ---- room
+
+pub numbered-room : (low wait : ℕ) (marks : List (Option ℕ)) (numbers : List ℕ) → numbered low wait marks ≡ Some numbers → HasRoom low wait marks
+numbered-room low wait [] numbers is = (end-of low wait numbers is).0
+numbered-room low wait (None ∷ marks) numbers is = numbered-room low (wait + 1) marks numbers is
+numbered-room low wait (Some number ∷ marks) numbers is =
+    let given = given-of low wait number marks numbers is in
+    (given.room, numbered-room number 0 marks given.rest given.found)
+
+pub room-numbered : (low wait : ℕ) (marks : List (Option ℕ)) → HasRoom low wait marks → (numbers : List ℕ) × (numbered low wait marks ≡ Some numbers)
+room-numbered low wait [] room =
+    (tens (low + 10) wait, ap (λ b. cond b (Some (tens (low + 10) wait)) None) (le-leb (low + 10 * wait) 4294967295 room))
+room-numbered low wait (None ∷ marks) room = room-numbered low (wait + 1) marks room
+room-numbered low wait (Some number ∷ marks) room =
+    let behind = room-numbered number 0 marks room.1 in (
+      spread low (number - low) (wait + 1) 1 wait ++ (number ∷ behind.0),
+      ap (λ b. cond b None (spread_before low number wait (numbered number 0 marks))) (lt-leb number (low + wait) room.0)
+          ∙ ap (λ o. spread_before low number wait o) behind.1,
+    )
 
 -- ---- numbers that are all given
 

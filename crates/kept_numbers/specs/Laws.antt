@@ -1,5 +1,5 @@
 -- What is so of the numbers of all lists.
-use Rattle.std.specs.Prelude.{◌≡◌, ◌≢◌, ◌⊎◌, ℕ, ◌<◌, ◌≤◌, true, false, Option, Some, None, List, [], ◌∷◌, ◌++◌, map, length}
+use Rattle.std.specs.Prelude.{◌≡◌, ◌≢◌, ◌⊎◌, ℕ, ◌+◌, ◌*◌, ◌<◌, ◌≤◌, true, false, Option, Some, None, List, [], ◌∷◌, ◌++◌, map, length}
 use Rattle.kept_numbers.specs.declared.words.OlderLine.{OlderLine}
 use Rattle.kept_numbers.specs.Kept.{kept}
 use Rattle.kept_numbers.specs.Numbered.{numbers_for, tens}
@@ -30,6 +30,19 @@ abbrev pub NumbersRise : Type 0
 NumbersRise = (older : List OlderLine) (lines : List (List ℕ)) → HaveNumbers older → length lines ≤ 4096
     → Rises 0 (numbers_for older lines).1 × (length (numbers_for older lines).1 ≡ length lines)
     × (AreKept (kept older lines) (numbers_for older lines).1 ⊎ (numbers_for older lines ≡ (true, tens 10 (length lines))))
+
+-- There is room for the new ones of lines of which some keep a number, above this number and behind so many that wait: before a number that
+-- is kept as many numbers are left as wait for one, and behind the last one there are as many tens.
+abbrev pub HasRoom : ℕ → ℕ → List (Option ℕ) → Type 0
+HasRoom low wait [] = low + 10 * wait ≤ 4294967295
+HasRoom low wait (None ∷ marks) = HasRoom low (wait + 1) marks
+HasRoom low wait (Some number ∷ marks) = (low + wait < number) × HasRoom number 0 marks
+
+-- Where there is room for all new lines, lines that are to keep a number do, and it isn't said that all are new; where there isn't, it is.
+abbrev pub KeptWhereRoom : Type 0
+KeptWhereRoom = (older : List OlderLine) (lines : List (List ℕ))
+    → (HasRoom 0 0 (kept older lines) → AreKept (kept older lines) (numbers_for older lines).1 × ((numbers_for older lines).0 ≡ false))
+    × ((numbers_for older lines).0 ≡ false → HasRoom 0 0 (kept older lines))
 
 -- these lines have marks of older ones, of the same words and in the same order
 abbrev pub IsMarked : (List OlderLine → Type 0) → List OlderLine → List ℕ → Option ℕ → Type 0

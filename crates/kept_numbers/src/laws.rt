@@ -1,12 +1,17 @@
 //! Laws as calls: each makes nothing, and its contract is the law.
 
-ghost use Rattle.kept_numbers.specs.Laws.{ALineLessKeepsOthers, ALineMoreKeepsAll, KeptAreOlder, NewAreByTens, NumbersRise, SameAgain};
+ghost use Rattle.kept_numbers.specs.Laws.{ALineLessKeepsOthers, ALineMoreKeepsAll, KeptAreOlder, KeptWhereRoom, NewAreByTens, NumbersRise, SameAgain};
 ghost use Rattle.kept_numbers.specs.Written.{IsReadBack};
 
 /// The numbers of a list rise, as many as there are lines, from 1 to the greatest one that a line can have; and a line that
 /// is to keep its number has it, or all are numbered anew.
 pub fn numbers_rise()
     ensures { NumbersRise }
+{}
+
+/// All lines are numbered anew where there is no room for a new one, and there alone.
+pub fn kept_where_there_is_room()
+    ensures { KeptWhereRoom }
 {}
 
 /// A line that keeps a number has the words of the older line of this number, and lines that keep theirs stand in the same

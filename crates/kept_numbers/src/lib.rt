@@ -21,8 +21,8 @@
 //!   for lists that were changed throughout.
 //! - **Several lines that come between two part the numbers between them evenly**, one gets the middle. Behind the last line
 //!   that is kept numbers are tens above it.
-//! - **Where no number is left between two lines, all lines are numbered anew by tens**, and it is said. To move a few lines
-//!   alone would leave the next change without room there.
+//! - **Where no number is left between two lines, all lines are numbered anew by tens**, and it is said; elsewhere none is (a
+//!   law). To move a few lines alone would leave the next change without room there.
 //! - **The older list needn't be in order.** Where numbers of lines that would stay don't rise, there is no room either.
 #![tactic(auto)]
 
@@ -35,7 +35,8 @@ mod words;
 pub use keeping::kept;
 pub use laws::{
     a_line_less_keeps_others, a_line_more_keeps_all, kept_lines_are_older_ones,
-    new_lists_are_by_tens, numbers_rise, same_list_same_numbers, scripts_are_read_back,
+    kept_where_there_is_room, new_lists_are_by_tens, numbers_rise, same_list_same_numbers,
+    scripts_are_read_back,
 };
 pub use numbering::{MOST_LINES, Numbers, numbered, numbers_for};
 pub use older::older_lines;
