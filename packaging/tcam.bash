@@ -14,9 +14,9 @@ _tcam() {
     explain) words="route acl route6 acl6 router router6 gen verify draw import judge --help" ;;
     *)
         case $command in
-        route | route6) words="--slots --placement --removals --trace --names --depth --json --help" ;;
-        acl | acl6) words="--slots --ranges --placement --removals --trace --names --depth --json --help" ;;
-        router | router6) words="--slots --ranges --placement --trace --help" ;;
+        route | route6) words="--slots --placement --removals --trace --names --depth --json --large --help" ;;
+        acl | acl6) words="--slots --ranges --placement --removals --trace --names --depth --json --large --help" ;;
+        router | router6) words="--slots --ranges --placement --trace --large --help" ;;
         gen) words="--slots --ranges --placement --help" ;;
         verify) words="--help" ;;
         draw) words="--commit --commits --occupancy --help" ;;

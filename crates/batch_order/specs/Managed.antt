@@ -139,7 +139,7 @@ pub record Holds (old : Managed) (batch : List Command) (counts : Done) (new : M
   pub made : List Write
   pub new_is : new ≡ record old { held = Some (commit_of old batch made counts) }
   pub in_use : AllByRecursion (IsInUse old.slots) made
-  pub few : length made ≤ 2 ^ 39
+  pub few : length made ≤ 2 ^ 35
   -- hitless after every write, of the commit's shape, and within the bounds on insertions
   pub segment : (device_slots : ℕ) → old.slots ≤ device_slots
       → IsSegment old.mode old.bits old.rules batch (on_device device_slots old.state) made

@@ -81,7 +81,7 @@ pub record AreChangesPlanned (slots : Slots) (rewrites : List Rewrite) (erased :
   pub most : plan'.most ≡ plan.most
   pub span : plan'.span ≡ plan.span
   pub most_parts : plan'.most_parts ≡ plan.most_parts
-  pub few : length (all_writes plan'.writes) ≤ 2 ^ 39
+  pub few : length (all_writes plan'.writes) ≤ 2 ^ 35
   pub at_home : GainsAtHome slots (changed_ids rewrites erased) plan.writes.changes.items plan'.writes.changes.items
   pub noted : plan'.undo.changes ≡ plan.undo.changes ++ changes_back slots rewrites erased
   pub same_words : plan'.writes.words.items ≡ plan.writes.words.items

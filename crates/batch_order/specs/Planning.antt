@@ -121,4 +121,4 @@ pub record AreAllPlanned (before after : Arranged) (plan plan' : Plan) (pieces :
   pub most : plan'.most ≡ between.most
   pub span : plan'.span ≡ between.span
   pub most_parts : plan'.most_parts ≡ between.most_parts
-  pub few : length (all_writes plan'.writes) ≤ 2 ^ 39
+  pub few : length (all_writes plan'.writes) ≤ 2 ^ 35

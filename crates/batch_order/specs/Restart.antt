@@ -86,7 +86,7 @@ pub record Resumes (slots : ℕ) (mode : Mode) (placement : Placement) (parts : 
   }
   pub on : on_device device_slots (in_use slots state) ≡ state
   pub writes_in_use : AllByRecursion (IsInUse slots) made
-  pub few : length made ≤ 2 ^ 39
+  pub few : length made ≤ 2 ^ 35
   -- hitless after every write, and within the bounds on insertions
   pub goes_on : GoesOn slots mode (bits_in parts) parts.rules.rules batch state left twin made
   -- its insertions are those of the placement, each with its aim

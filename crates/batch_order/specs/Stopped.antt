@@ -114,7 +114,7 @@ pub record IsPlannedOn (placement : Placement) (device_slots : ℕ) (asked : Pro
   pub changed : AllByRecursion (λ rewrite. IsTrue (is_live after.kept.live rewrite.id)) rest.left.rewrites.items
   pub gone : AllByRecursion (λ id. IsTrue (is_live after.kept.live id)) rest.left.erased.items
   pub once : IsDistinct nat_eq rest.left.erased.items
-  pub few_writes : length (all_writes rest.plan.writes) ≤ 2 ^ 39
+  pub few_writes : length (all_writes rest.plan.writes) ≤ 2 ^ 35
   pub few_planned : length plan.planned ≤ most_slots
   pub few_rewritten : length rest.left.rewrites.items ≤ most_slots
   pub few_erased : length rest.left.erased.items ≤ most_slots

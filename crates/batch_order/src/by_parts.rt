@@ -21,7 +21,7 @@ impl Manager {
     /// a new result, three of an entry in place of another one, and one of an erase or of a table's word.
     pub fn parts(&self) -> u64
         requires unwritten { is_unwritten self.now.held ≡ true }
-        requires few { length (writes_left self.now.held) ≤ 2 ^ 39 }
+        requires few { length (writes_left self.now.held) ≤ 2 ^ 35 }
         ensures { result ≡ parts_number self.now.state (writes_left self.now.held) }
     {
         match &self.held {
@@ -50,7 +50,7 @@ fn parts_of_all(
     rewrites: &[Rewrite],
     live: &LiveEntries,
 ) -> u64
-    requires few { length (all_writes writes.now) ≤ 2 ^ 39 }
+    requires few { length (all_writes writes.now) ≤ 2 ^ 35 }
     requires size { length (all_undo undo.now) ≡ length (all_writes writes.now) }
     ensures { result ≡ paired_number (as_writes live.now.entries rewrites.now (all_writes writes.now)) (as_writes live.now.entries rewrites.now (all_undo undo.now)) }
 {

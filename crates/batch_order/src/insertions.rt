@@ -242,7 +242,8 @@ fn plan_moves(
 /// Refuses an insertion of more moves than a plan takes of one, as for want of memory: these take 12 GiB, and as many
 /// to restore them.
 fn keep_short(insert: Insert) -> Result<(), AllocError>
-    ensures { OnOk result (insert.writes ≤ 2 ^ 30) }
+    ensures short { OnOk result (insert.writes ≤ 2 ^ 30) }
+    ensures only { OnErr result (2 ^ 30 < insert.writes) }
 {
     if insert.writes > INSERTION_WRITES {
         return Err(AllocError);

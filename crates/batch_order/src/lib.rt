@@ -33,6 +33,10 @@
 //! planned: what stands at a live id changes only once the commit has finished, and the new entries of ids wait beside
 //! the plan. There is a list of each kind of write, so an insertion pushes its moves straight into the plan.
 //!
+//! **Where routes stand is told to their index** with each move that a plan makes or takes back (`follow`, `put_back`) and
+//! with each erase (`erase_all`), and of what a restart finds (`standing_in`). So of routes the planner asks for two
+//! slots, and for no list of what overlaps; where lists stand their index isn't asked.
+//!
 //! **Port ranges.** By covers a rule takes an entry for each pair of blocks of its ranges' covers. A rule that replaces
 //! another keeps the entries that both have, and only the others are put in and erased. By bits a rule takes one entry:
 //! a range that isn't one block is tested by a bit of its field's translation table. A commit that brings new ranges

@@ -1,6 +1,6 @@
 //! The plan of a commit: its writes, planned before the first of them goes out.
 
-ghost use Rattle.std.specs.Prelude.{◌≡◌, ◌*◌, ◌^◌, ◌<◌, ◌≤◌, ◌++◌, [], OnOk, List, length, map, max, nat_eq};
+ghost use Rattle.std.specs.Prelude.{◌≡◌, ◌*◌, ◌^◌, ◌<◌, ◌≤◌, ◌++◌, [], OnOk, OnErr, List, length, map, max, nat_eq};
 ghost use Rattle.std.specs.List.{AllByRecursion, IsDistinct};
 ghost use Rattle.commit_writes.specs.declared.Rewrite.{Rewrite};
 ghost use Rattle.commit_writes.specs.Planned.{IdEntries};
@@ -23,7 +23,7 @@ use slot_pool::Arrangement;
 use std::alloc::{AllocError, Global};
 
 /// The most writes of a commit.
-const COMMIT_WRITES: u64 = 0x80_0000_0000;
+const COMMIT_WRITES: u64 = 0x8_0000_0000;
 
 /// The writes of a commit still to make, how many of them are words of the tables, the writes of its longest insertion,
 /// and the greatest span of one.
@@ -116,7 +116,7 @@ pub(crate) fn plan_changes(
     ensures span { OnOk result (plan.new.span ≡ plan.old.span) }
     ensures most_parts { OnOk result (plan.new.most_parts ≡ plan.old.most_parts) }
     ensures at_home { OnOk result (GainsAtHome arrangement.now (changed_ids parts.now.rewrites.items parts.now.erased.items) plan.old.writes.changes.items plan.new.writes.changes.items) }
-    ensures few { OnOk result (length (all_writes plan.new.writes) ≤ 2 ^ 39) }
+    ensures few { OnOk result (length (all_writes plan.new.writes) ≤ 2 ^ 35) }
     ensures noted { OnOk result (plan.new.undo.changes ≡ plan.old.undo.changes ++ changes_back arrangement.now parts.now.rewrites.items parts.now.erased.items) }
     ensures others { HasSameNotes plan.old plan.new }
 {
@@ -128,10 +128,11 @@ pub(crate) fn plan_changes(
     Ok(())
 }
 
-/// Refuses a plan of more writes than a commit has at most, as for want of memory: these alone take 6 TiB, and as many to
+/// Refuses a plan of more writes than a commit has at most, as for want of memory: these alone take 384 GiB, and as many to
 /// restore them.
 fn keep_few(writes: &PlannedWrites) -> Result<(), AllocError>
-    ensures { OnOk result (length (all_writes writes.now) ≤ 2 ^ 39) }
+    ensures few { OnOk result (length (all_writes writes.now) ≤ 2 ^ 35) }
+    ensures only { OnErr result (2 ^ 35 < length (all_writes writes.now)) }
 {
     if writes.len() as u64 > COMMIT_WRITES {
         return Err(AllocError);

@@ -1,7 +1,7 @@
 -- What is told of a text, where a line of it, its end or a fault comes.
 use Rattle.std.proofs.Common.{◌≡◌, ◌≢◌, ◌<◌, ◌≤◌, ◌+◌, ℕ, List, [], ◌∷◌, ◌++◌, length, refl, sym, ap, subst, arith, length-append}
 use Rattle.script_lines.specs.declared.LineFault.{LineFault}
-use Rattle.script_lines.specs.Lines.{NumberedLine, LinesEnd, ScriptLines, EndOfInput, Faulty, ends_at, onto_lines, lines_of, text_lines_from}
+use Rattle.script_lines.specs.Lines.{NumberedLine, LinesEnd, ScriptLines, EndOfInput, Faulty, ends_at, onto_lines, lines_of, most_bytes, text_lines_from}
 use Rattle.script_lines.specs.Reader.{IsOpenLine}
 use Rattle.script_lines.proofs.Texts.{text-whole, text-last, text-fault, at_line}
 use Rattle.driver_trace.specs.declared.Compared.{Compared}
@@ -70,7 +70,7 @@ told-at-end by text done judging rest answer is none told =
     is.there answer (subst (λ r. TellsLines by judging (text_lines_from (length text) done judging.next r) answer) (sym none) told)
 
 -- a byte at fault
-pub told-at-fault : (by : Compared) (text : List ℕ) (done : ℕ) (judging : Judging) (rest : List ℕ) (fault : LineFault) → IsBehind by text done judging rest → lines_of rest ≡ ends_at (Faulty fault)
+pub told-at-fault : (by : Compared) (text : List ℕ) (done : ℕ) (judging : Judging) (rest : List ℕ) (fault : LineFault) → IsBehind by text done judging rest → lines_of most_bytes rest ≡ ends_at (Faulty fault)
     → IsDriverAnswer by text (Unread (at_line judging.next fault))
 told-at-fault by text done judging rest fault is faulty =
     let size = is.size in

@@ -11,7 +11,9 @@ use Rattle.script_lines.specs.Reader.{HeldBytes, HandsByGiven, Again, lines_held
 use Rattle.script_runs.specs.declared.Status.{Status}
 use Rattle.script_runs.specs.declared.Status.TheVariants as status
 use Rattle.script_runs.specs.Script.{NumberedAct, Whole, FaultAt, acts_of, byte_end}
+use Rattle.report_lines.specs.Sizes.{sizes_by}
 use Rattle.script_runs.specs.Rounds.{IsGoing, IsReadSoFar, acts_only}
+use Rattle.script_runs.proofs.Rounds.{fresh}
 use Rattle.script_runs.proofs.NextLines.{bytes-end, bytes-fault}
 use Rattle.settled_changes.specs.declared.requested.Requested.TheVariants.{Nothing}
 use Rattle.settled_changes.specs.Requested.{changes_in}
@@ -140,22 +142,19 @@ finish-right now bytes after told last (inr (inr is)) right = rw is tt
 
 -- ---- before the first line
 
-abbrev pub fresh : HeldBytes
-fresh = record { pending = []; before = 0; number = 1; over = over.Going }
-
 abbrev pub begun : Wanted → Explained
 begun wanted = record { wanted = wanted; rules = []; batch = []; asked = Nothing; probes = 0; foretold = foretold.Known; wrong = false }
 
-pub stands-first : (wanted : Wanted) (held : HeldBytes) (now : Explained) (bytes left : List ℕ) → held ≡ fresh → now ≡ begun wanted → MayGive bytes [] left → IsStanding bytes held left now
+pub stands-first : (wanted : Wanted) (held : HeldBytes) (now : Explained) (bytes left : List ℕ) → held ≡ fresh (sizes_by wanted.large).bytes → now ≡ begun wanted → MayGive bytes [] left → IsStanding bytes held left now
 stands-first wanted held now bytes left new is may =
-    let read : IsGoing (kind_for wanted) bytes fresh left [] (0, 0) = record {
+    let read : IsGoing (kind_for wanted) bytes (fresh (sizes_by wanted.large).bytes) left [] (0, 0) = record {
       done = [];
       parts = may.bytes;
       script = λ rest. refl;
       last = λ rest. refl;
       whole = λ rest. refl;
     } in
-    let at : IsFaultless foretold.Known bytes fresh left (begun wanted) = record { acts = []; read = read; tells = λ more. refl } in
-    let first : IsStanding bytes fresh left (begun wanted) = at in
-    let there : IsStanding bytes fresh left now = subst (λ (n : Explained). IsStanding bytes fresh left n) (sym is) first in
+    let at : IsFaultless foretold.Known bytes (fresh (sizes_by wanted.large).bytes) left (begun wanted) = record { acts = []; read = read; tells = λ more. refl } in
+    let first : IsStanding bytes (fresh (sizes_by wanted.large).bytes) left (begun wanted) = at in
+    let there : IsStanding bytes (fresh (sizes_by wanted.large).bytes) left now = subst (λ (n : Explained). IsStanding bytes (fresh (sizes_by wanted.large).bytes) left n) (sym is) first in
     subst (λ (h : HeldBytes). IsStanding bytes h left now) (sym new) there

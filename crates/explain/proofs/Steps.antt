@@ -20,6 +20,7 @@ use Rattle.script_runs.specs.Rounds.{IsGoing, IsReadSoFar, acts_next, acts_only,
 use Rattle.script_runs.proofs.NextLines.{HandsOne, line-none, line-fault, line-full, line-act, next-line, line-here, onto-more, only-more}
 use Rattle.replay.specs.declared.Act.{Act}
 use Rattle.replay.specs.declared.Act.TheVariants.{Command, Ask, All, Probe, Packet, Commit, Trial, Crash}
+use Rattle.report_lines.specs.Sizes.{sizes_by}
 use Rattle.replay.specs.Script.{Script, limit_fault, pending_after, probes_after, script_kind}
 use Rattle.tcam_cli.specs.Readings.{reading_by}
 use Rattle.explain.specs.declared.explainer.Wanted.{Wanted}
@@ -33,7 +34,7 @@ use Rattle.explain.specs.Steps.{behind_act, behind_room, changes_of, commit_verd
 
 -- the kind of scripts that is explained
 abbrev pub kind_for : Wanted → ScriptKind Act (ℕ × ℕ)
-kind_for wanted = script_kind (reading_by (setting_for wanted))
+kind_for wanted = script_kind (sizes_by wanted.large) (reading_by (setting_for wanted))
 
 -- what is counted of the acts so far
 abbrev counts : Explained → ℕ × ℕ
@@ -68,7 +69,7 @@ module _ (bytes : List ℕ) (old : HeldBytes) (left : List ℕ) (line : Numbered
       let (rest, e) = line-here (kind_for now.wanted) bytes old left line new after acts (counts now) going hands in
       stopped rest text (e ∙ ap (onto_all acts) (line-fault (kind_for now.wanted) (counts now) line rest text bad))
 
-  pub full-here : (act : Act) (text : List ℕ) → reading_by (setting_for now.wanted) line.text ≡ Ok (Some act) → limit_fault act (changes_in now.batch now.asked) now.probes ≡ Some text
+  pub full-here : (act : Act) (text : List ℕ) → reading_by (setting_for now.wanted) line.text ≡ Ok (Some act) → limit_fault (sizes_by now.wanted.large).commands act (changes_in now.batch now.asked) now.probes ≡ Some text
       → (script_for now.wanted bytes).last ≢ Whole
   full-here act text is full =
       let (rest, e) = line-here (kind_for now.wanted) bytes old left line new after acts (counts now) going hands in
@@ -81,7 +82,7 @@ module _ (bytes : List ℕ) (old : HeldBytes) (left : List ℕ) (line : Numbered
       (λ rest. ap (onto_all acts) (line-none (kind_for now.wanted) (counts now) line rest is))
 
   -- an act for which there is room
-  pub act-here : (act : Act) → reading_by (setting_for now.wanted) line.text ≡ Ok (Some act) → limit_fault act (changes_in now.batch now.asked) now.probes ≡ None
+  pub act-here : (act : Act) → reading_by (setting_for now.wanted) line.text ≡ Ok (Some act) → limit_fault (sizes_by now.wanted.large).commands act (changes_in now.batch now.asked) now.probes ≡ None
       → IsReadSoFar new.over (kind_for now.wanted) bytes new after (acts ++ record { line = line.number; act = act } ∷ []) (pending_after act (changes_in now.batch now.asked), probes_after act now.probes)
   act-here act is room =
       let kind = kind_for now.wanted in
@@ -166,8 +167,8 @@ acted-wanted by number act None now = carried-wanted by number act now
 next-by-wanted : (by : Foretold) (number : ℕ) (read : Result (Option Act) (List ℕ)) (now : Explained) → (behind_line_by by number read now).wanted ≡ now.wanted
 next-by-wanted by number (Err text) now = refl
 next-by-wanted by number (Ok None) now = refl
-next-by-wanted foretold.Known number (Ok (Some act)) now = acted-wanted foretold.Known number act (limit_fault act (changes_in now.batch now.asked) now.probes) now
-next-by-wanted (foretold.BehindTrial line) number (Ok (Some act)) now = acted-wanted (foretold.BehindTrial line) number act (limit_fault act (changes_in now.batch now.asked) now.probes) now
+next-by-wanted foretold.Known number (Ok (Some act)) now = acted-wanted foretold.Known number act (limit_fault (sizes_by now.wanted.large).commands act (changes_in now.batch now.asked) now.probes) now
+next-by-wanted (foretold.BehindTrial line) number (Ok (Some act)) now = acted-wanted (foretold.BehindTrial line) number act (limit_fault (sizes_by now.wanted.large).commands act (changes_in now.batch now.asked) now.probes) now
 next-by-wanted (foretold.BehindFault line) number (Ok (Some act)) now = refl
 
 pub next-wanted : (number : ℕ) (read : Result (Option Act) (List ℕ)) (now : Explained) → (behind_line number read now).wanted ≡ now.wanted
@@ -270,7 +271,7 @@ module _ (bytes : List ℕ) (old : HeldBytes) (left : List ℕ) (line : Numbered
     (hands : old.over ≡ over.Going → HandsOne old left line new after) where
   -- what is read behind an act
   read-behind : (by : Foretold) (act : Act) (acts : List (NumberedAct Act)) → IsGoing (kind_for now.wanted) bytes old left acts (counts now) → HandsOne old left line new after
-      → reading_by (setting_for now.wanted) line.text ≡ Ok (Some act) → limit_fault act (changes_in now.batch now.asked) now.probes ≡ None
+      → reading_by (setting_for now.wanted) line.text ≡ Ok (Some act) → limit_fault (sizes_by now.wanted.large).commands act (changes_in now.batch now.asked) now.probes ≡ None
       → IsReadSoFar new.over (kind_for (behind_room by line.number act now).wanted) bytes new after (acts ++ record { line = line.number; act = act } ∷ []) (counts (behind_room by line.number act now))
   read-behind by act acts going one is room =
       let next = acts ++ record { line = line.number; act = act } ∷ [] in
@@ -279,7 +280,7 @@ module _ (bytes : List ℕ) (old : HeldBytes) (left : List ℕ) (line : Numbered
       (act-here bytes old left line new after now acts going one act is room))
 
   known-acted : (act : Act) (limit : Option (List ℕ)) → now.foretold ≡ foretold.Known → (s : IsFaultless foretold.Known bytes old left now) → IsGoing (kind_for now.wanted) bytes old left s.acts (counts now)
-      → HandsOne old left line new after → reading_by (setting_for now.wanted) line.text ≡ Ok (Some act) → limit_fault act (changes_in now.batch now.asked) now.probes ≡ limit
+      → HandsOne old left line new after → reading_by (setting_for now.wanted) line.text ≡ Ok (Some act) → limit_fault (sizes_by now.wanted.large).commands act (changes_in now.batch now.asked) now.probes ≡ limit
       → IsStanding bytes new after (behind_act foretold.Known line.number act limit now)
   known-acted act (Some text) is s going one read full =
       let at : HasFault bytes (faulted line.number foretold.Known now) = record { wrong = refl; fault = full-here bytes old left line new after now s.acts going one act text read full } in
@@ -290,7 +291,7 @@ module _ (bytes : List ℕ) (old : HeldBytes) (left : List ℕ) (line : Numbered
 
   trial-acted : (at_line : ℕ) (act : Act) (limit : Option (List ℕ)) → now.foretold ≡ foretold.BehindTrial at_line → (s : IsFaultless (foretold.BehindTrial at_line) bytes old left now)
       → IsGoing (kind_for now.wanted) bytes old left s.acts (counts now)
-      → HandsOne old left line new after → reading_by (setting_for now.wanted) line.text ≡ Ok (Some act) → limit_fault act (changes_in now.batch now.asked) now.probes ≡ limit
+      → HandsOne old left line new after → reading_by (setting_for now.wanted) line.text ≡ Ok (Some act) → limit_fault (sizes_by now.wanted.large).commands act (changes_in now.batch now.asked) now.probes ≡ limit
       → IsStanding bytes new after (behind_act (foretold.BehindTrial at_line) line.number act limit now)
   trial-acted at_line act (Some text) is s going one read full =
       let at : HasFault bytes (faulted line.number (foretold.BehindTrial at_line) now) = record { wrong = refl; fault = full-here bytes old left line new after now s.acts going one act text read full } in
@@ -311,7 +312,7 @@ module _ (bytes : List ℕ) (old : HeldBytes) (left : List ℕ) (line : Numbered
       known-stands bytes new after now s.acts is (none-here bytes old left line new after now s.acts going.1 (hands going.0) read) s.tells
   stands-by foretold.Known found (Ok (Some act)) is s again read =
       let going = still-going old.over (kind_for now.wanted) bytes old left s.acts (counts now) (Ok (Some found)) (λ e. cc) again s.read in
-      known-acted act (limit_fault act (changes_in now.batch now.asked) now.probes) is s going.1 (hands going.0) read refl
+      known-acted act (limit_fault (sizes_by now.wanted.large).commands act (changes_in now.batch now.asked) now.probes) is s going.1 (hands going.0) read refl
   stands-by (foretold.BehindTrial at_line) found (Err text) is s again read =
       let going = still-going old.over (kind_for now.wanted) bytes old left s.acts (counts now) (Ok (Some found)) (λ e. cc) again s.read in
       let at : HasFault bytes (faulted line.number (foretold.BehindTrial at_line) now) = record { wrong = refl; fault = fault-here bytes old left line new after now s.acts going.1 (hands going.0) text read } in
@@ -321,7 +322,7 @@ module _ (bytes : List ℕ) (old : HeldBytes) (left : List ℕ) (line : Numbered
       trial-stands bytes new after at_line now s.acts is (none-here bytes old left line new after now s.acts going.1 (hands going.0) read) s.tells
   stands-by (foretold.BehindTrial at_line) found (Ok (Some act)) is s again read =
       let going = still-going old.over (kind_for now.wanted) bytes old left s.acts (counts now) (Ok (Some found)) (λ e. cc) again s.read in
-      trial-acted at_line act (limit_fault act (changes_in now.batch now.asked) now.probes) is s going.1 (hands going.0) read refl
+      trial-acted at_line act (limit_fault (sizes_by now.wanted.large).commands act (changes_in now.batch now.asked) now.probes) is s going.1 (hands going.0) read refl
   stands-by (foretold.BehindFault at_line) found (Err text) is s again read =
       let at : HasFault bytes (faulted line.number (foretold.BehindFault at_line) now) = record { wrong = refl; fault = s.fault } in
       at

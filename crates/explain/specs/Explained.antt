@@ -16,6 +16,7 @@ use Rattle.replay.specs.declared.Act.{Act}
 use Rattle.replay.specs.declared.Act.TheVariants.{Command, Ask, All, Probe, Packet, Commit, Trial, Crash}
 use Rattle.replay.specs.Early.{commit_verdict}
 use Rattle.replay.specs.Effects.{Setting}
+use Rattle.report_lines.specs.Sizes.{sizes_by}
 use Rattle.replay.specs.Script.{Script, script_of}
 use Rattle.tcam_cli.specs.Headline.{decided}
 use Rattle.tcam_cli.specs.Readings.{reading_by}
@@ -24,11 +25,11 @@ use Rattle.explain.specs.declared.explainer.Wanted.{Wanted}
 -- a setting of a run that a script is explained for; where insertions aim and what is traced decides nothing here
 abbrev pub setting_for : Wanted → Setting
 setting_for wanted =
-    record { slots = wanted.slots; mode = wanted.mode; placement = Middle; family = wanted.family; trace = false; depth = 0; json = wanted.json; names = false; parts = wanted.parts }
+    record { slots = wanted.slots; mode = wanted.mode; placement = Middle; family = wanted.family; trace = false; depth = 0; json = wanted.json; names = false; parts = wanted.parts; large = wanted.large }
 
 -- the script that some bytes are to such a run
 abbrev pub script_for : Wanted → List ℕ → Script
-script_for wanted bytes = script_of (reading_by (setting_for wanted)) bytes
+script_for wanted bytes = script_of (sizes_by wanted.large) (reading_by (setting_for wanted)) bytes
 
 -- whether a commit is refused, or one behind it, where it is accepted
 abbrev pub judged_by : Verdict → Bool → Bool

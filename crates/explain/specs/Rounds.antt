@@ -11,6 +11,7 @@ use Rattle.script_runs.specs.declared.Status.{Status}
 use Rattle.script_runs.specs.Script.{NumberedAct, Whole}
 use Rattle.script_runs.specs.Rounds.{IsReadSoFar, acts_only}
 use Rattle.replay.specs.declared.Act.{Act}
+use Rattle.report_lines.specs.Sizes.{sizes_by}
 use Rattle.replay.specs.Script.{script_kind}
 use Rattle.tcam_cli.specs.Readings.{reading_by}
 use Rattle.explain.specs.declared.explainer.Wanted.{Wanted}
@@ -40,7 +41,7 @@ ForetellsBy (foretold.BehindFault line) now acts = ⊥
 -- The acts so far, of which none is at fault, and what is read of the script.
 pub record IsFaultless (by : Foretold) (bytes : List ℕ) (held : HeldBytes) (left : List ℕ) (now : Explained) : Type 0 where
   pub acts : List (NumberedAct Act)
-  pub read : IsReadSoFar held.over (script_kind (reading_by (setting_for now.wanted))) bytes held left acts (changes_in now.batch now.asked, now.probes)
+  pub read : IsReadSoFar held.over (script_kind (sizes_by now.wanted.large) (reading_by (setting_for now.wanted))) bytes held left acts (changes_in now.batch now.asked, now.probes)
   pub tells : ForetellsBy by now (acts_only acts)
 
 -- A line of the script is at fault.

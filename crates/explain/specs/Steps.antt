@@ -8,6 +8,7 @@ use Rattle.settled_changes.specs.Requested.{asked_behind, asked_with, batch_behi
 use Rattle.replay.specs.declared.Act.{Act}
 use Rattle.replay.specs.declared.Act.TheVariants.{Command, Ask, All, Probe, Packet, Commit, Trial, Crash}
 use Rattle.replay.specs.Early.{commit_verdict}
+use Rattle.report_lines.specs.Sizes.{sizes_by}
 use Rattle.replay.specs.Script.{limit_fault}
 use Rattle.explain.specs.declared.explainer.Foretold.{Foretold}
 use Rattle.explain.specs.declared.explainer.Foretold.TheVariants as foretold
@@ -93,7 +94,7 @@ behind_act by number act None now = behind_room by number act now
 
 -- behind an act, where no line before it is at fault
 abbrev pub behind_act_in : Foretold → ℕ → Act → Explained → Explained
-behind_act_in by number act now = behind_act by number act (limit_fault act (changes_in now.batch now.asked) now.probes) now
+behind_act_in by number act now = behind_act by number act (limit_fault (sizes_by now.wanted.large).commands act (changes_in now.batch now.asked) now.probes) now
 
 -- behind a line, by what it reads as; once a line is at fault acts do nothing
 abbrev pub behind_line_by : Foretold → ℕ → Result (Option Act) (List ℕ) → Explained → Explained

@@ -10,8 +10,9 @@ ghost use Rattle.explain.specs.Steps.{behind_act_in, behind_fault, behind_line, 
 
 use crate::changes::Seen;
 use replay::{Act, Family};
+use report_lines::sizes_by;
 use rule_model::Rank;
-use rule_store::{Batch, Command, Mode, PENDING_COMMANDS, Store};
+use rule_store::{Batch, Command, Mode, Store};
 use script_faults::{Grammar, tell_trouble, trouble_of};
 use script_lines::Line;
 use settled_changes::{Request, Requested, Requests};
@@ -23,8 +24,9 @@ use tcam_cli::{read_family_act, told_act};
 /// The most probes of a script.
 const PROBES: u32 = 16;
 
-/// What a script is explained for: of which family it is, how many slots are in use, 1 to 4,096, how port ranges are
-/// tested, whether the report is in JSON, and whether removals of commits go first where they may.
+/// What a script is explained for: of which family it is, how many slots are in use, 1 to 4,096 or with the large sizes to
+/// 1,048,576, how port ranges are tested, whether the report is in JSON, whether removals of commits go first where they may,
+/// and whether it has the large sizes.
 #[derive(Clone, Copy, Debug, PartialEq, Eq)]
 pub struct Wanted {
     pub family: Family,
@@ -32,6 +34,7 @@ pub struct Wanted {
     pub mode: Mode,
     pub json: bool,
     pub parts: bool,
+    pub large: bool,
 }
 
 /// How far the refusals of a script are foretold.
@@ -127,6 +130,15 @@ fn behind_fault(number: u32, foretold: Foretold) -> Foretold
         Foretold::Known => Foretold::BehindFault { line: number },
         Foretold::BehindTrial { .. } => Foretold::BehindFault { line: number },
         Foretold::BehindFault { line } => Foretold::BehindFault { line },
+    }
+}
+
+/// What is told of a change for which a batch has no room.
+fn full_batch(large: bool) -> &'static str {
+    if large {
+        "1048576 changes are pending, and a batch holds no more: commit"
+    } else {
+        "4096 changes are pending, and a batch holds no more: commit"
     }
 }
 
@@ -258,12 +270,13 @@ impl Explainer {
     fn change(&mut self, command: Command, number: u32, text: &mut String) -> Result<(), AllocError>
         ensures { OnOk result (self.new ≡ behind_act_in self.old.foretold number (Act.Command command) self.old) }
     {
-        if self.pending() >= PENDING_COMMANDS {
-            let why = "4096 changes are pending, and a batch holds no more: commit";
+        let most = sizes_by(self.wanted.large).commands;
+        if self.pending() >= most {
+            let why = full_batch(self.wanted.large);
             return self.fault(number, why, text);
         }
         self.lines.reserve(1)?;
-        match self.asked.push(command, &mut self.batch) {
+        match self.asked.push_within(command, &mut self.batch, most) {
             Ok(()) => {
                 self.lines.push_reserved(number);
                 Ok(())
@@ -276,12 +289,16 @@ impl Explainer {
     fn ask(&mut self, request: Request, number: u32, text: &mut String) -> Result<(), AllocError>
         ensures { OnOk result (self.new ≡ behind_act_in self.old.foretold number (Act.Ask request) self.old) }
     {
-        if self.pending() >= PENDING_COMMANDS {
-            let why = "4096 changes are pending, and a batch holds no more: commit";
+        let most = sizes_by(self.wanted.large).commands;
+        if self.pending() >= most {
+            let why = full_batch(self.wanted.large);
             return self.fault(number, why, text);
         }
         self.lines.reserve(1)?;
-        match self.asked.ask(self.alloc, request, &mut self.batch) {
+        match self
+            .asked
+            .ask_within(self.alloc, request, &mut self.batch, most)
+        {
             Ok(()) => {
                 self.lines.push_reserved(number);
                 Ok(())

@@ -8,14 +8,12 @@ ghost use Rattle.explain.specs.Explained.{IsRightOf};
 ghost use Rattle.explain.specs.Rounds.{RoundsBy};
 
 use crate::explainer::{Explainer, Foretold, Wanted};
-use report_lines::write_text;
+use report_lines::{sizes_by, write_text};
 use script_lines::{Failed, LineFault, Lines, Sink, Source};
 use script_runs::Status;
 use std::alloc::{AllocError, Global};
 
 /// What is told of a byte at fault.
-const LONG_SCRIPT: &str = "a script has 16777216 bytes at most";
-
 const LONG_LINE: &str = "a line has 512 bytes at most, and what follows wasn't looked at";
 
 const BAD_BYTE: &str =
@@ -38,7 +36,7 @@ pub fn explain_script<S: Source, K: Sink>(
     ensures write { IsCounted (result ≡ Status.WriteFault) (K.faults sink.old) (K.faults sink.new) }
 {
     let mut explainer = Explainer::new(alloc, wanted);
-    let mut lines = Lines::new();
+    let mut lines = Lines::of_at_most(sizes_by(wanted.large).bytes);
     'rounds: loop {
         match round(&mut explainer, &mut lines, source, sink) {
             Some(status) => return status,
@@ -54,7 +52,7 @@ fn round<S: Source, K: Sink>(
     source: &mut S,
     sink: &mut K,
 ) -> Option<Status>
-    ensures goes { IfNone result ((lines.old.before < lines.new.before) × (lines.new.before ≤ 16777216)) }
+    ensures goes { IfNone result ((lines.old.before < lines.new.before) × (lines.new.before ≤ 268435456)) }
     ensures wanted { IfNone result (explainer.new.wanted ≡ explainer.old.wanted) }
     ensures gives { (pieces : List (List ℕ)) × GivesPieces (S.given source.old) (S.given source.new) (S.left source.old) (S.left source.new) pieces
         × RoundsBy lines.old explainer.old pieces result lines.new explainer.new }
@@ -64,12 +62,10 @@ fn round<S: Source, K: Sink>(
 {
     let line = match lines.next(source) {
         Err(LineFault::Read) => return Some(Status::ReadFault),
-        Err(LineFault::ScriptTooLong { line }) => return Some(stop(
-            explainer,
-            line,
-            LONG_SCRIPT,
-            sink,
-        )),
+        Err(LineFault::ScriptTooLong { line }) => {
+            let why = long_script(explainer.wanted.large);
+            return Some(stop(explainer, line, why, sink));
+        }
         Err(LineFault::TooLong { line }) => return Some(stop(explainer, line, LONG_LINE, sink)),
         Err(LineFault::BadByte { line }) => return Some(stop(explainer, line, BAD_BYTE, sink)),
         Ok(None) => return Some(finish(explainer, sink)),
@@ -82,6 +78,15 @@ fn round<S: Source, K: Sink>(
     match write_text(sink, &told) {
         Ok(()) => None,
         Err(Failed) => Some(Status::WriteFault),
+    }
+}
+
+/// What is told of a byte that a script has no room for.
+fn long_script(large: bool) -> &'static str {
+    if large {
+        "a script has 268435456 bytes at most"
+    } else {
+        "a script has 16777216 bytes at most"
     }
 }
 

@@ -1,6 +1,6 @@
 -- What a command line is answered, by what its words are read as.
 use Rattle.std.proofs.Common.{◌≡◌, ◌≢◌, inl, inr, ℕ, List, refl, sym, ◌∙◌, subst}
-use Rattle.rule_model.specs.declared.IpVersion.{IpVersion}
+use Rattle.explain_router.specs.declared.RouterWanted.{RouterWanted}
 use Rattle.script_runs.specs.declared.Status.{Status}
 use Rattle.script_runs.specs.declared.Status.TheVariants as status
 use Rattle.tcam_cli.specs.Headline.{Job, NoJob, Tells, Reads, Makes, Verifies}
@@ -45,12 +45,12 @@ never-help (Reads setting) kind is reads = let bad : read_as.Help ≡ read_as.Sc
 never-help (Makes setting seed rules batches) kind is reads = let bad : read_as.Help ≡ read_as.Other = sym is ∙ reads in cc
 never-help Verifies kind is reads = let bad : read_as.Help ≡ read_as.Other = sym is ∙ reads in cc
 
-pub never-router : (job : Job) (kind : Words) (version : IpVersion) → kind ≡ read_as.Router version → IsReadAs job kind → ⊥
-never-router NoJob kind version is reads = let bad : read_as.Router version ≡ read_as.Wrong = sym is ∙ reads in cc
-never-router (Tells own) kind version is reads = let bad : read_as.Router version ≡ read_as.Other = sym is ∙ reads in cc
-never-router (Reads setting) kind version is reads = let bad : read_as.Router version ≡ read_as.Script (wanted_of setting) = sym is ∙ reads in cc
-never-router (Makes setting seed rules batches) kind version is reads = let bad : read_as.Router version ≡ read_as.Other = sym is ∙ reads in cc
-never-router Verifies kind version is reads = let bad : read_as.Router version ≡ read_as.Other = sym is ∙ reads in cc
+pub never-router : (job : Job) (kind : Words) (wanted : RouterWanted) → kind ≡ read_as.Router wanted → IsReadAs job kind → ⊥
+never-router NoJob kind wanted is reads = let bad : read_as.Router wanted ≡ read_as.Wrong = sym is ∙ reads in cc
+never-router (Tells own) kind wanted is reads = let bad : read_as.Router wanted ≡ read_as.Other = sym is ∙ reads in cc
+never-router (Reads setting) kind wanted is reads = let bad : read_as.Router wanted ≡ read_as.Script (wanted_of setting) = sym is ∙ reads in cc
+never-router (Makes setting seed rules batches) kind wanted is reads = let bad : read_as.Router wanted ≡ read_as.Other = sym is ∙ reads in cc
+never-router Verifies kind wanted is reads = let bad : read_as.Router wanted ≡ read_as.Other = sym is ∙ reads in cc
 
 -- memory was wanting
 pub memory-answers : (job : Job) (bytes after : List ℕ) → IsAnswerOf job bytes after status.Memory

@@ -37,7 +37,7 @@ IsOfTable words = reader_of (slice_get words 1) ≡ reader.Table
 
 -- what a script is explained for whose run has this setting
 abbrev pub wanted_of : Setting → Wanted
-wanted_of setting = record { family = setting.family; slots = setting.slots; mode = setting.mode; json = setting.json; parts = setting.parts }
+wanted_of setting = record { family = setting.family; slots = setting.slots; mode = setting.mode; json = setting.json; parts = setting.parts; large = setting.large }
 
 -- this status, but where the sink failed or memory was wanting
 abbrev pub EndsWith : Status → Status → Type 0

@@ -4,6 +4,7 @@ ghost use Rattle.std.specs.Prelude.{◌<◌};
 
 use import_cli::{ChainName, FaceName};
 use option_words::{mode_named, number_of, placement_of};
+use report_lines::sizes_by;
 
 /// The commands of the program, by their options.
 #[derive(Clone, Copy, Debug, PartialEq, Eq)]
@@ -39,11 +40,12 @@ pub(crate) enum Name {
     In,
     Since,
     Results,
+    Large,
     Help,
 }
 
 /// How many options there are.
-pub(crate) const NAMES: usize = 19;
+pub(crate) const NAMES: usize = 20;
 
 /// The command that a word names.
 pub(crate) fn subcommand_named(word: &str) -> Option<Subcommand> {
@@ -81,6 +83,7 @@ pub(crate) fn option_named(word: &str) -> Option<Name> {
         "--in" => Some(Name::In),
         "--since" => Some(Name::Since),
         "--results" => Some(Name::Results),
+        "--large" => Some(Name::Large),
         "--help" | "-h" => Some(Name::Help),
         _ => None,
     }
@@ -98,7 +101,7 @@ pub(crate) fn has_option(subcommand: Subcommand, name: Name) -> bool {
             subcommand,
             Subcommand::Acl | Subcommand::Router | Subcommand::Gen
         ),
-        Name::Trace => matches!(
+        Name::Trace | Name::Large => matches!(
             subcommand,
             Subcommand::Route | Subcommand::Acl | Subcommand::Router
         ),
@@ -116,10 +119,10 @@ pub(crate) fn has_option(subcommand: Subcommand, name: Name) -> bool {
 pub(crate) fn options_text(subcommand: Subcommand) -> &'static str {
     match subcommand {
         Subcommand::Route =>
-            "--slots, --placement, --removals, --trace, --names, --depth and --json",
+            "--slots, --placement, --removals, --trace, --names, --depth, --json and --large",
         Subcommand::Acl =>
-            "--slots, --ranges, --placement, --removals, --trace, --names, --depth and --json",
-        Subcommand::Router => "--slots, --ranges, --placement and --trace",
+            "--slots, --ranges, --placement, --removals, --trace, --names, --depth, --json and --large",
+        Subcommand::Router => "--slots, --ranges, --placement, --trace and --large",
         Subcommand::Gen => "--slots, --ranges and --placement",
         Subcommand::Verify => "no option",
         Subcommand::Draw => "--commit, --commits and --occupancy",
@@ -128,9 +131,10 @@ pub(crate) fn options_text(subcommand: Subcommand) -> &'static str {
     }
 }
 
-/// What may stand behind an option, as a sentence has it; none where nothing may.
-pub(crate) fn values_text(name: Name) -> Option<&'static str> {
+/// What may stand behind an option, as a sentence has it, of words with `--large` or without; none where nothing may.
+pub(crate) fn values_text(name: Name, large: bool) -> Option<&'static str> {
     match name {
+        Name::Slots if large => Some("1 to 1048576"),
         Name::Slots => Some("1 to 4096"),
         Name::Ranges => Some("cover or bits"),
         Name::Placement => Some("middle, rank or ends"),
@@ -151,14 +155,15 @@ pub(crate) fn values_text(name: Name) -> Option<&'static str> {
         | Name::Occupancy
         | Name::LeaveOut
         | Name::Results
+        | Name::Large
         | Name::Help => None,
     }
 }
 
-/// Whether a value may stand behind an option.
-pub(crate) fn is_value(name: Name, value: &str) -> bool {
+/// Whether a value may stand behind an option, of words with `--large` or without.
+pub(crate) fn is_value(name: Name, value: &str, large: bool) -> bool {
     match name {
-        Name::Slots => number_of(value, 1, 4096).is_some(),
+        Name::Slots => number_of(value, 1, sizes_by(large).slots).is_some(),
         Name::Ranges => mode_named(value).is_some(),
         Name::Placement => placement_of(value).is_some(),
         Name::Removals => matches!(value, "first" | "last"),
@@ -176,6 +181,7 @@ pub(crate) fn is_value(name: Name, value: &str) -> bool {
         | Name::Occupancy
         | Name::LeaveOut
         | Name::Results
+        | Name::Large
         | Name::Help => false,
     }
 }
@@ -225,6 +231,7 @@ pub(crate) fn place_of(name: Name) -> usize
         Name::Chain => 16,
         Name::In => 17,
         Name::Since => 18,
+        Name::Large => 19,
     }
 }
 
@@ -239,6 +246,7 @@ pub(crate) fn option_like(word: &str) -> Option<&'static str> {
         "--removal" | "--remove" => Some("--removals"),
         "--depths" | "-d" => Some("--depth"),
         "--JSON" | "-j" => Some("--json"),
+        "--big" | "--huge" | "-l" => Some("--large"),
         "-help" | "-?" => Some("--help"),
         _ => None,
     }

@@ -11,11 +11,13 @@ use std::alloc::AllocError;
 const COMMANDS: &str =
     "route, acl, route6, acl6, router, router6, gen, verify, draw, import or judge";
 
-/// A walk over the words behind a command's name: which options came, and how many other words.
+/// A walk over the words behind a command's name: whether the large sizes are among them, which options came, and how many
+/// other words.
 #[derive(Drop)]
 struct Walk<'a> {
     subcommand: Subcommand,
     name: &'a str,
+    large: bool,
     came: [bool; NAMES],
     others: usize,
 }
@@ -55,6 +57,7 @@ fn tell_behind(
     let mut walk = Walk {
         subcommand,
         name,
+        large: is_large(subcommand, words),
         came: [false; NAMES],
         others: 0,
     };
@@ -71,7 +74,27 @@ fn tell_behind(
             value_due = tell_word(text, &mut walk, word, next)?;
         }
     }
+    tell_both(text, &walk)?;
     tell_missing(text, &walk)
+}
+
+/// Whether words ask for the large sizes, of a command that has them.
+fn is_large(subcommand: Subcommand, words: &[String]) -> bool {
+    let mut found = false;
+    for word in words {
+        found = found || word.as_str() == "--large";
+    }
+    found && has_option(subcommand, Name::Large)
+}
+
+/// That two options don't stand together, where they do.
+fn tell_both(text: &mut String, walk: &Walk<'_>) -> Result<(), AllocError> {
+    if walk.came[place_of(Name::Large)] && walk.came[place_of(Name::Json)] {
+        return text.push_str(
+            "--json: not with --large, since a trace tells of 4096 slots at most\n",
+        );
+    }
+    Ok(())
 }
 
 /// What is wrong with a word, if something is, and whether the next word is its value.
@@ -96,7 +119,7 @@ fn tell_word(
         found => {
             tell_no_option(text, walk, option)?;
             let takes = match found {
-                Some(name) => values_text(name).is_some(),
+                Some(name) => values_text(name, walk.large).is_some(),
                 None => option_like(option).is_some(),
             };
             Ok(takes && inline.is_none() && !begins_option(next))
@@ -138,7 +161,7 @@ fn tell_option(
         writeln!(text, "{option}: once alone")?;
     }
     walk.came[place] = true;
-    let Some(values) = values_text(name) else {
+    let Some(values) = values_text(name, walk.large) else {
         if let Some(value) = inline {
             writeln!(text, "{option}={value}: {option} alone, without a value")?;
         }
@@ -146,7 +169,7 @@ fn tell_option(
     };
     match inline {
         Some(value) => {
-            if !is_value(name, value) {
+            if !is_value(name, value, walk.large) {
                 writeln!(text, "{option}={value}: {values}")?;
             }
             Ok(false)
@@ -157,7 +180,7 @@ fn tell_option(
         }
         None => {
             let value = next.unwrap_or("");
-            if !is_value(name, value) {
+            if !is_value(name, value, walk.large) {
                 writeln!(text, "{option} {value}: {values}")?;
             }
             Ok(true)

@@ -10,11 +10,10 @@ ghost use Rattle.explain_cli.specs.Promise.{EndsWith, IsAnswerOf, IsOfTable, IsR
 use crate::own_texts::EXPLAIN_HELP;
 use crate::search::tell_words;
 use explain::{Wanted, explain_script};
-use explain_router::explain_router_script;
+use explain_router::{RouterWanted, explain_router_script};
 use option_words::WordsFault;
 use report_lines::write_text;
 use router_cli::{RouterAsked, read_router_words};
-use rule_model::IpVersion;
 use script_lines::{Failed, Sink, Source};
 use script_runs::Status;
 use std::alloc::{AllocError, Global};
@@ -44,8 +43,8 @@ enum Words {
     Help,
     /// Those of a script, which is to be explained so.
     Script(Wanted),
-    /// Those of a router's script, of this version of IP.
-    Router(IpVersion),
+    /// Those of a router's script, which is to be explained so.
+    Router(RouterWanted),
     /// A command line of another kind.
     Other,
     /// No command line.
@@ -74,7 +73,7 @@ pub fn explain<S: Source, K: Sink>(
     let own = own_words(words);
     match kind_of(alloc, own) {
         Ok(Words::Script(wanted)) => explain_script(alloc, wanted, source, sink),
-        Ok(Words::Router(version)) => explain_router_script(alloc, version, source, sink),
+        Ok(Words::Router(wanted)) => explain_router_script(alloc, wanted, source, sink),
         Ok(Words::Help) => tell(sink, EXPLAIN_HELP, Status::Done),
         Ok(Words::Other) => tell(sink, "nothing is wrong\n", Status::Done),
         Ok(Words::Wrong) => tell_wrong(alloc, own, sink),
@@ -133,7 +132,9 @@ fn reader_named(word: &str) -> Reader
 /// What words of a router's command line are.
 fn kind_of_router(alloc: Global, words: &[String]) -> Result<Words, AllocError> {
     match read_router_words(alloc, words) {
-        Ok(RouterAsked::Script { version, .. }) => Ok(Words::Router(version)),
+        Ok(RouterAsked::Script { version, large, .. }) => {
+            Ok(Words::Router(RouterWanted { version, large }))
+        }
         Ok(RouterAsked::Help) => Ok(Words::Other),
         Err(WordsFault::Usage) => Ok(Words::Wrong),
         Err(WordsFault::Memory) => Err(AllocError),
@@ -189,6 +190,7 @@ fn kind_asked(asked: Asked) -> Words
             mode,
             json,
             parts,
+            large,
             ..
         } => Words::Script(Wanted {
             family,
@@ -196,6 +198,7 @@ fn kind_asked(asked: Asked) -> Words
             mode,
             json,
             parts,
+            large,
         }),
         Asked::Made { .. } => Words::Other,
         Asked::Verify => Words::Other,

@@ -10,7 +10,7 @@ use Rattle.script_lines.specs.declared.LineFault.TheVariants as fault
 use Rattle.script_lines.specs.declared.Over.{Over}
 use Rattle.script_lines.specs.declared.Over.TheVariants as over
 use Rattle.script_lines.specs.Given.{MayGive}
-use Rattle.script_lines.specs.Lines.{ScriptLines, EndOfInput, Faulty, limits, ends_at, lines_from, lines_of, numbered}
+use Rattle.script_lines.specs.Lines.{ScriptLines, EndOfInput, Faulty, limits, ends_at, lines_from, lines_of, most_bytes, numbered}
 use Rattle.script_lines.specs.Reader.{HeldBytes, IsOpenLine, lines_held, Hands, HandsByGiven, Again, Stays}
 use Rattle.script_lines.proofs.Turns.{may-all}
 use Rattle.script_runs.specs.declared.Status.{Status}
@@ -36,7 +36,7 @@ going-line : (o : Over) (line : Line) → MayGoOn o → Again o (Ok (Some line))
 going-line o line may again = still-going o (Ok (Some line)) may (λ e. cc) again
 
 -- it reads what is held and left as a script
-held-anew : (old : HeldBytes) (left : List ℕ) → IsAnew old → lines_held old left ≡ lines_of (old.pending ++ left)
+held-anew : (old : HeldBytes) (left : List ℕ) → IsAnew old → lines_held old left ≡ lines_of most_bytes (old.pending ++ left)
 held-anew old left anew =
     ap (λ b. lines_from limits b old.number [] (old.pending ++ left)) anew.before ∙ ap (λ n. lines_from limits 0 n [] (old.pending ++ left)) anew.number
 
@@ -90,7 +90,7 @@ module _ (Known : Type 0) (telling : Telling Known) (old new : HeldBytes) (numbe
 
   -- a byte at fault
   faulty : (f : LineFault) (held : HeldBytes) (left now : List ℕ) → HandsByGiven old pieces (Err f) held → Again old.over (Err f) → MayGive left pieces now
-      → (Hands old left (Err f) held now → lines_held old left ≡ ends_at (Faulty f)) → lines_of (old.pending ++ left) ≡ ends_at (Faulty f)
+      → (Hands old left (Err f) held now → lines_held old left ≡ ends_at (Faulty f)) → lines_of most_bytes (old.pending ++ left) ≡ ends_at (Faulty f)
   faulty f held left now by again may read = sym (held-anew old left anew) ∙ read (by.hands (going-fault old.over f anew.goes_on again) left now may)
 
   pub round-too-long : (held : HeldBytes) (line : ℕ) (result : Status) → HandsByGiven old pieces (Err (fault.TooLong line)) held → Again old.over (Err (fault.TooLong line))

@@ -6,7 +6,7 @@ use Rattle.std.specs.Io.KnownBytes.{Appends}
 use Rattle.std.proofs.lemmas.List.{take-append-drop}
 use Rattle.script_lines.specs.declared.LineFault.{LineFault}
 use Rattle.script_lines.specs.declared.Over.TheVariants as over
-use Rattle.script_lines.specs.Lines.{NumberedLine, ScriptLines, EndOfInput, Faulty, ends_at, onto_lines, lines_of, text_lines_from}
+use Rattle.script_lines.specs.Lines.{NumberedLine, ScriptLines, EndOfInput, Faulty, ends_at, onto_lines, lines_of, most_bytes, text_lines_from}
 use Rattle.script_lines.specs.Reader.{HeldBytes, IsOpenLine, is_of_line, HandsWhole, HandsLast}
 use Rattle.script_lines.proofs.Texts.{text-whole, text-last, text-fault, at_line, IsOfLine}
 use Rattle.script_runs.specs.declared.Status.{Status}
@@ -235,14 +235,14 @@ at-end text old left number lines s none = s.lines_are ∙ ap (λ rest. text_lin
 
 -- a byte at fault
 pub at-fault : (text : List ℕ) (old : HeldBytes) (left : List ℕ) (number : ℕ) (lines : ScriptLines) (f : LineFault)
-    → RoundBegins text old left number lines → lines_of (old.pending ++ left) ≡ ends_at (Faulty f) → lines ≡ ends_at (Faulty (at_line number f))
+    → RoundBegins text old left number lines → lines_of most_bytes (old.pending ++ left) ≡ ends_at (Faulty f) → lines ≡ ends_at (Faulty (at_line number f))
 at-fault text old left number lines f s faulty =
     let size = begins-size text old left number lines s in
     let room : length s.told + length (old.pending ++ left) ≤ length text = omega (arith, size) in
     s.lines_are ∙ (text-fault (length text) (length s.told) number (old.pending ++ left) f room faulty).0
 
 -- no text is too long for a script
-pub fault-of-line : (bytes : List ℕ) (f : LineFault) → lines_of bytes ≡ ends_at (Faulty f) → IsOfLine f
+pub fault-of-line : (bytes : List ℕ) (f : LineFault) → lines_of most_bytes bytes ≡ ends_at (Faulty f) → IsOfLine f
 fault-of-line bytes f same =
     let room : 0 + length bytes ≤ length bytes = omega arith in
     (text-fault (length bytes) 0 1 bytes f room same).1

@@ -34,7 +34,7 @@ unfolding digits
 one_fault = refl
 
 abbrev eight : Setting
-eight = record { slots = 8; mode = Cover; placement = Middle; family = Route; trace = false; depth = 0; json = true; names = false; parts = false }
+eight = record { slots = 8; mode = Cover; placement = Middle; family = Route; trace = false; depth = 0; json = true; names = false; parts = false; large = false }
 
 -- the route is added, once more, which is refused, and removed
 abbrev three : List Act

@@ -1,7 +1,9 @@
 -- What the top call reports in JSON gets yes.
-use Rattle.std.proofs.Common.{◌≡◌, ℕ, ◌^◌, ◌<◌, List, [], ◌∷◌, ◌++◌, length, inl, inr, sym, ap, ◌∙◌, subst, arith, append-nil}
+use Rattle.std.proofs.Common.{◌≡◌, ℕ, Bool, ◌^◌, ◌<◌, ◌≤◌, List, [], ◌∷◌, ◌++◌, length, inl, inr, sym, ap, ◌∙◌, subst, arith, append-nil}
 use Rattle.std.proofs.lemmas.List.{append_cancel_left}
-use Rattle.script_lines.specs.Lines.{lines_of}
+use Rattle.slot_order.specs.Order.{script_slots}
+use Rattle.script_lines.specs.Lines.{lines_of, usual_bytes}
+use Rattle.report_lines.specs.Sizes.{sizes_by, usual_sizes}
 use Rattle.tcam_device.specs.declared.Write.{Write}
 use Rattle.tcam_device.specs.Flight.{writes_in}
 use Rattle.trace_check.specs.Answers.{Yes, IsTraceAnswer}
@@ -32,24 +34,34 @@ GetsYes commits report made = IsTraceAnswer report (Yes commits (length made))
 
 module _ (setting : Setting) (device_slots : ℕ) (wants : WantsTrace setting device_slots) (bytes : List ℕ) where
   abbrev script : Script
-  script = script_of (reading_by setting) bytes
+  script = script_of (sizes_by setting.large) (reading_by setting) bytes
+
+  -- the script of the usual sizes that these bytes are
+  abbrev usual : Script
+  usual = script_of usual_sizes (reading_by setting) bytes
+
+  script_is : script ≡ usual
+  script_is = ap (λ (large : Bool). script_of (sizes_by large) (reading_by setting) bytes) wants.usual
 
   abbrev commits : ℕ
   commits = accepted_in setting (acts_of script)
 
   told : AreTraceActs (family_version setting.family) 0 (acts_of script)
-  told = acts_told (family_version setting.family) (reading_by setting) (reads_traces setting wants.json) (lines_of bytes).last (lines_of bytes).lines 0 0 (omega arith)
+  told = subst (λ (some : Script). AreTraceActs (family_version setting.family) 0 (acts_of some)) (sym script_is)
+      (acts_told (family_version setting.family) (reading_by setting) (reads_traces setting wants.json) (lines_of usual_bytes bytes).last (lines_of usual_bytes bytes).lines 0 0 (omega arith))
 
   plain : EndsPlainly script.last
   plain =
       let few = few_lines bytes in
-      ends_plainly (reading_by setting) (reading_plain setting wants.json) batch_plain changes_plain probes_plain (lines_of bytes).last (byte_plain (lines_of bytes).last few.last) (lines_of bytes).lines few.numbered 0 0
+      subst (λ (some : Script). EndsPlainly some.last) (sym script_is)
+      (ends_plainly (reading_by setting) (reading_plain setting wants.json) batch_plain changes_plain probes_plain (lines_of usual_bytes bytes).last (byte_plain (lines_of usual_bytes bytes).last few.last) (lines_of usual_bytes bytes).lines few.numbered 0 0)
 
   -- the commits are no more than the lines
   commits_few : (body : List Effect) (last : Progress) → RunsBy setting device_slots (acts_of script) body last → last.commits < 2 ^ 32
   commits_few body last run =
       let lines = (few_lines bytes).count in
-      let acts = act_count (reading_by setting) (lines_of bytes).lines (lines_of bytes).last 0 0 in
+      let least = act_count (reading_by setting) (lines_of usual_bytes bytes).lines (lines_of usual_bytes bytes).last 0 0 in
+      let acts : length (acts_of script) ≤ length (lines_of usual_bytes bytes).lines = subst (λ (some : Script). length (acts_of some) ≤ length (lines_of usual_bytes bytes).lines) (sym script_is) least in
       let commits = few_commits setting (acts_of script) 0 (start device_slots) body last told run in
       omega arith
 
@@ -84,12 +96,13 @@ complete_of setting device_slots script came status effects partial (inr (inr fa
 pub promised_yes : JsonReportsGetYes
 promised_yes words setting device_slots status old new before report events asked json wide reported few (takes, matches) =
     let asks = words_ask words setting asked in
-    let most = asks.most in
-    let wants : WantsTrace setting device_slots = record { json = json; some = asks.some; most = most; device = omega arith } in
+    let usual = asks.usual json in
+    let most : setting.slots ≤ script_slots = subst (λ (large : Bool). setting.slots ≤ (sizes_by large).slots) usual asks.most in
+    let wants : WantsTrace setting device_slots = record { json = json; usual = usual; some = asks.some; most = most; device = omega arith } in
     let w = complete_of setting device_slots _ _ status matches.effects matches.partial reported matches.outcome in
     let same : report ≡ printed matches.effects = append_cancel_left before report (printed matches.effects ++ matches.partial) matches.report_is
     ∙ ap (λ text. printed matches.effects ++ text) w.1 ∙ append-nil (printed matches.effects) in
     let made : writes_in events ≡ journal_of matches.effects = ap writes_in matches.events_is in
     let yes = complete setting device_slots wants old status matches.effects w.0 (subst (λ (ws : List Write). length ws < 2 ^ 64) made few) in
-    subst (λ text. GetsYes (accepted_in setting (acts_of (script_of (reading_by setting) old))) text (writes_in events)) (sym same)
-    (subst (GetsYes (accepted_in setting (acts_of (script_of (reading_by setting) old))) (printed matches.effects)) (sym made) yes)
+    subst (λ text. GetsYes (accepted_in setting (acts_of (script_of (sizes_by setting.large) (reading_by setting) old))) text (writes_in events)) (sym same)
+    (subst (GetsYes (accepted_in setting (acts_of (script_of (sizes_by setting.large) (reading_by setting) old))) (printed matches.effects)) (sym made) yes)

@@ -16,18 +16,21 @@ use Rattle.rule_store.specs.declared.Mode.{Mode}
 use Rattle.batch_order.specs.declared.Placement.{Placement}
 use Rattle.report_lines.specs.declared.Family.{Family}
 use Rattle.report_lines.specs.declared.Family.TheVariants.{Route, Acl, Route6, Acl6}
+use Rattle.report_lines.specs.Sizes.{sizes_by}
 use Rattle.replay.specs.Effects.{Setting}
 use Rattle.tcam_cli.specs.declared.own_texts.Topic.{Topic}
 use Rattle.tcam_cli.specs.Headline.{Job, NoJob, Reads, Verifies}
-use Rattle.option_words.specs.Options.{is_traced, number_given, number_in, placed_by, text_of}
-use Rattle.tcam_cli.specs.CommandLine.{job_at, job_by_faults, job_of, job_of_fault, is_json, is_named, parted_by, made_at, mode_wanted, script_setting, tcam_app, topic_in}
-use Rattle.tcam_cli.specs.Asked.{job_by, tested_job, tested_job_of_rows, tested_made, tested_script}
+use Rattle.option_words.specs.Options.{is_large, is_traced, number_given, number_in, placed_by, text_of}
+use Rattle.tcam_cli.specs.CommandLine.{job_at, job_by, job_by_faults, job_of, job_of_fault, is_json, is_named, parted_by, made_at, mode_wanted, script_setting, tcam_app, topic_in}
+use Rattle.tcam_cli.specs.Asked.{tested_job, tested_job_of_rows, tested_made, tested_script}
 use Rattle.tcam_cli.proofs.NumbersTaken.{tested}
 
--- what a script is asked for over: slots in use that there may be
+-- what a script is asked for over: slots in use that there may be of its sizes, which are the usual ones where the report is
+-- in JSON
 pub record AsksFor (setting : Setting) : Type 0 where
   pub some : 1 ≤ setting.slots
-  pub most : setting.slots ≤ script_slots
+  pub most : setting.slots ≤ (sizes_by setting.large).slots
+  pub usual : setting.json ≡ true → setting.large ≡ false
 
 -- a number that was asked for is one of its range
 record IsGiven (least greatest : ℕ) (job : ℕ → Job) (setting : Setting) : Type 0 where
@@ -47,21 +50,26 @@ given least greatest text job setting true tells asks =
 given least greatest text job setting false tells asks = absurd (cc)
 
 -- a script over so many slots
-asked : (family : Family) (slots : ℕ) (mode : Option Mode) (placement : Option Placement) (trace : Bool) (depth : ℕ) (json names : Bool) (parts : Option Bool) (setting : Setting) → 1 ≤ slots → slots ≤ script_slots
-    → job_at family slots mode placement trace depth json names parts ≡ Reads setting → AsksFor setting
-asked family slots None placement trace depth json names parts setting some most asks = absurd (cc)
-asked family slots (Some mode) None trace depth json names parts setting some most asks = absurd (cc)
-asked family slots (Some mode) (Some placement) trace depth json names None setting some most asks = absurd (cc)
-asked family slots (Some mode) (Some placement) trace depth json names (Some parts) setting some most asks =
-    let same : script_setting family slots mode placement trace depth json names parts ≡ setting = cc in
-    subst AsksFor same (record { some = some; most = most })
+asked : (family : Family) (slots : ℕ) (mode : Option Mode) (placement : Option Placement) (trace : Bool) (depth : ℕ) (json names : Bool) (parts : Option Bool) (large : Bool) (setting : Setting) → 1 ≤ slots → slots ≤ (sizes_by large).slots
+    → job_at family slots mode placement trace depth json names parts large ≡ Reads setting → AsksFor setting
+asked family slots None placement trace depth json names parts large setting some most asks = absurd (cc)
+asked family slots (Some mode) None trace depth json names parts large setting some most asks = absurd (cc)
+asked family slots (Some mode) (Some placement) trace depth json names None large setting some most asks = absurd (cc)
+asked family slots (Some mode) (Some placement) trace depth true names (Some parts) true setting some most asks = absurd (cc)
+asked family slots (Some mode) (Some placement) trace depth true names (Some parts) false setting some most asks =
+    let same : script_setting family slots mode placement trace depth true names parts false ≡ setting = cc in
+    subst AsksFor same (record { some = some; most = most; usual = λ _. refl })
+asked family slots (Some mode) (Some placement) trace depth false names (Some parts) large setting some most asks =
+    let same : script_setting family slots mode placement trace depth false names parts large ≡ setting = cc in
+    subst AsksFor same (record { some = some; most = most; usual = λ e. absurd (cc) })
 
 script_asked : (family : Family) (rows : List Row) (setting : Setting) → tested_script family rows ≡ Reads setting → AsksFor setting
 script_asked family rows setting asks =
-    let job : ℕ → ℕ → Job = λ slots depth. job_at family slots (mode_wanted family rows) (placed_by rows) (is_traced rows) depth (is_json rows) (is_named rows) (parted_by rows) in
-    let slots = given 1 script_slots (text_of (codes "slots") rows) (λ slots. job_by (number_given 0 15 (codes "depth") rows) (job slots)) setting (is_unsigned_in 1 script_slots (text_of (codes "slots") rows)) refl asks in
+    let job : ℕ → ℕ → Job = λ slots depth. job_at family slots (mode_wanted family rows) (placed_by rows) (is_traced rows) depth (is_json rows) (is_named rows) (parted_by rows) (is_large rows) in
+    let top = (sizes_by (is_large rows)).slots in
+    let slots = given 1 top (text_of (codes "slots") rows) (λ slots. job_by (number_given 0 15 (codes "depth") rows) (job slots)) setting (is_unsigned_in 1 top (text_of (codes "slots") rows)) refl asks in
     let depth = given 0 15 (text_of (codes "depth") rows) (job slots.number) setting (is_unsigned_in 0 15 (text_of (codes "depth") rows)) refl slots.asks in
-    asked family slots.number (mode_wanted family rows) (placed_by rows) (is_traced rows) depth.number (is_json rows) (is_named rows) (parted_by rows) setting slots.low slots.high depth.asks
+    asked family slots.number (mode_wanted family rows) (placed_by rows) (is_traced rows) depth.number (is_json rows) (is_named rows) (parted_by rows) (is_large rows) setting slots.low slots.high depth.asks
 
 -- no script is asked for by what makes commands
 made_asked : (slots : ℕ) (mode : Option Mode) (placement : Option Placement) (seed rules batches : ℕ) (setting : Setting) → made_at slots mode placement seed rules batches ≡ Reads setting → AsksFor setting

@@ -5,6 +5,7 @@ use Rattle.tcam_device.specs.declared.Action.{Action}
 use Rattle.tcam_device.specs.Flight.{writes_in}
 use Rattle.trace_check.specs.Answers.{Yes, IsTraceAnswer}
 use Rattle.replay.specs.Effects.{Setting}
+use Rattle.report_lines.specs.Sizes.{sizes_by}
 use Rattle.replay.specs.Script.{script_of}
 use Rattle.script_runs.specs.declared.Status.{Status}
 use Rattle.script_runs.specs.declared.Status.TheVariants.{Done, Refused, Script}
@@ -25,4 +26,4 @@ JsonReportsGetYes =
     (words : List (List ℕ)) (setting : Setting) (device_slots : ℕ) (status : Status) (old new before report : List ℕ) (events : List Action)
     → job_of words ≡ Reads setting → setting.json ≡ true → script_slots ≤ device_slots → IsReported status → length (writes_in events) < 2 ^ 64
     → IsCarriedOut (Reads setting) device_slots status (Some old) (Some new) (Some before) (Some (before ++ report)) events
-    → IsTraceAnswer report (Yes (accepted_in setting (acts_of (script_of (reading_by setting) old))) (length (writes_in events)))
+    → IsTraceAnswer report (Yes (accepted_in setting (acts_of (script_of (sizes_by setting.large) (reading_by setting) old))) (length (writes_in events)))

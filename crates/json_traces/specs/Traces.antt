@@ -66,6 +66,7 @@ AreTraceActs version pending (Crash after ∷ acts) = ⊥
 -- A report in JSON is wanted, over slots in use that a device has.
 pub record WantsTrace (setting : Setting) (device_slots : ℕ) : Type 0 where
   pub json : setting.json ≡ true
+  pub usual : setting.large ≡ false
   pub some : 1 ≤ setting.slots
   pub most : setting.slots ≤ script_slots
   pub device : setting.slots ≤ device_slots

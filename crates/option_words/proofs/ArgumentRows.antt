@@ -252,10 +252,10 @@ abbrev pub slots_id : Text
 slots_id = codes "slots"
 
 -- the number of slots
-pub slots-default : (rows : List Row) → Good slots_id 1 script_slots rows → HasNumber slots_id 1 script_slots (with_default rows (filled slots_option)) × Good slots_id 1 script_slots (with_default rows (filled slots_option))
+pub slots-default : (rows : List Row) → Good slots_id 1 script_slots rows → HasNumber slots_id 1 script_slots (with_default rows (filled (slots_option script_slots))) × Good slots_id 1 script_slots (with_default rows (filled (slots_option script_slots)))
 unfolding slots_option
 slots-default = numbered-default slots_id 1 script_slots (codes "4096") refl
 
-pub slots-keep : Keeps (Good slots_id 1 script_slots) (filled slots_option)
+pub slots-keep : Keeps (Good slots_id 1 script_slots) (filled (slots_option script_slots))
 unfolding slots_option
 slots-keep = numbered-keep slots_id 1 script_slots (codes "4096") refl

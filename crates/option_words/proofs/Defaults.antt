@@ -1,15 +1,10 @@
--- What the arguments beside a number leave of it, and the number of slots of a subcommand whose first argument says it.
-use Rattle.std.proofs.Common.{◌≡◌, ◌∙◌, false, sym, subst, ap, List, [], ◌∷◌, ◌++◌}
+-- What the arguments beside a number leave of it.
+use Rattle.std.proofs.Common.{◌≡◌, false, List, [], ◌∷◌, ◌++◌}
 use Rattle.std.specs.Prelude.{ℕ, fold}
 use Rattle.std.specs.List.{list_any}
 use Rattle.std.specs.Str.{bytes_eq}
-use Rattle.slot_order.specs.Order.{script_slots}
-use Rattle.clap.specs.Walk.{Row, Rule, Text, nothing_held, rows_after, with_default}
-use Rattle.clap.specs.Simple.{Shape, filled}
-use Rattle.clap.specs.Faults.{level_fault}
-use Rattle.option_words.specs.Options.{slots_option}
-use Rattle.option_words.proofs.ArgumentRows.{AllKeep, Good, HasNumber, apart-keeps, has-apart, or_no, slots-default, slots-keep, slots_id}
-use Rattle.option_words.proofs.TakenRows.{level-taken}
+use Rattle.clap.specs.Walk.{Row, Rule, Text, with_default}
+use Rattle.option_words.proofs.ArgumentRows.{AllKeep, Good, HasNumber, apart-keeps, has-apart, or_no}
 
 -- ---- other arguments
 
@@ -38,12 +33,3 @@ all-behind P (a ∷ front) back ahead behind = (ahead.0, all-behind P front back
 pub keep-defaults : (P : List Row → Type 0) (rules : List Rule) → AllKeep P rules → (rows : List Row) → P rows → P (fold with_default rows rules)
 keep-defaults P [] all rows good = good
 keep-defaults P (a ∷ rest) all rows good = keep-defaults P rest all.1 (with_default rows a) (all.0.by_default rows good)
-
-module _ (s : Shape) (rest : List Rule) (others : AreOthers slots_id rest) (are : s.rules ≡ filled slots_option ∷ rest) (once : s.args_override_self ≡ false) (words : List Text) (none : level_fault s [] nothing_held words false [] ≡ []) where
-  pub script-slots : HasNumber slots_id 1 script_slots (rows_after s.rules [] words)
-  script-slots =
-      let keep : AllKeep (Good slots_id 1 script_slots) s.rules =
-      subst (AllKeep (Good slots_id 1 script_slots)) (sym are) (slots-keep, others-keep slots_id 1 script_slots rest others) in
-      let taken = level-taken (Good slots_id 1 script_slots) s keep once tt words none in
-      subst (HasNumber slots_id 1 script_slots) (sym (taken.after ∙ ap (fold with_default taken.rows) are))
-      (has-still slots_id 1 script_slots rest others (with_default taken.rows (filled slots_option)) (slots-default taken.rows taken.good).0)

@@ -2,7 +2,6 @@
 use Rattle.std.specs.Prelude.{ℕ, Bool, Option, Some, None, unwrap_or, List, [], ◌∷◌, true, codes, if◌then◌else◌}
 use Rattle.std.specs.Str.{bytes_eq}
 use Rattle.std.specs.Str.Parse.{digits_value, without_leading_plus}
-use Rattle.slot_order.specs.Order.{script_slots}
 use Rattle.clap.specs.Walk.{Rule, Row, Text, first_of}
 use Rattle.clap.specs.Simple.{new_rule}
 use Rattle.clap.specs.ValueTests.{is_unsigned_in}
@@ -13,12 +12,12 @@ use Rattle.rule_store.specs.declared.Mode.TheVariants.{Cover, Bits}
 use Rattle.batch_order.specs.declared.Placement.{Placement}
 use Rattle.batch_order.specs.declared.Placement.TheVariants.{Middle, Rank, Ends}
 
--- --slots, a number from 1 to 4096, by default 4096
-unfoldable pub slots_option : Rule
-slots_option = record (new_rule (codes "slots")) {
+-- --slots, a number from 1 to so many, by default 4096
+unfoldable pub slots_option : ℕ → Rule
+slots_option most = record (new_rule (codes "slots")) {
   long = Some (codes "slots");
   action = Some Set;
-  parser = Some (Unsigned 1 script_slots);
+  parser = Some (Unsigned 1 most);
   defaults = codes "4096" ∷ [];
 }
 
@@ -41,6 +40,10 @@ placement_option = record (new_rule (codes "placement")) {
 -- --trace, a flag
 unfoldable pub trace_flag : Rule
 trace_flag = record (new_rule (codes "trace")) { long = Some (codes "trace"); action = Some SetTrue }
+
+-- --large, a flag
+unfoldable pub large_flag : Rule
+large_flag = record (new_rule (codes "large")) { long = Some (codes "large"); action = Some SetTrue }
 
 -- a required number of a range, which stands behind the subcommand in its order
 unfoldable pub number_position : Text → ℕ → ℕ → Rule
@@ -77,6 +80,14 @@ has_text id text rows = bytes_eq (text_of id rows) text
 -- whether a trace is wanted
 abbrev pub is_traced : List Row → Bool
 is_traced rows = has_text (codes "trace") (codes "true") rows
+
+-- whether the large sizes are wanted
+abbrev pub is_large : List Row → Bool
+is_large rows = has_text (codes "large") (codes "true") rows
+
+-- the number of slots that was given, or is by default, where it is one of so many at most
+abbrev pub slots_given : ℕ → List Row → Option ℕ
+slots_given most rows = number_given 1 most (codes "slots") rows
 
 -- the mode that a word names
 abbrev pub mode_in : Text → Option Mode

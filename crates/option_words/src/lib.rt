@@ -1,9 +1,10 @@
 //! The options of runs over scripts, for each command line that has them: what `clap` is to take, and what its answer says.
 //!
-//!     --slots N            how many slots are in use, 1 to 4096
+//!     --slots N            how many slots are in use, 1 to 4096, or to 1048576 with --large
 //!     --ranges WORD        how port ranges are tested: cover or bits
 //!     --placement WORD     where insertions aim: middle, rank or ends
 //!     --trace              a line for each write
+//!     --large              larger tables, batches and scripts
 //!
 //! An option's definition (`specs/Options`) is what `clap` is told, and its reading a function of the rows that `clap`
 //! answers. Where `clap` finds no fault, a number is in its range whatever the other arguments are: `proofs/ArgumentRows`
@@ -13,12 +14,14 @@
 //! # Decided
 //! - **`clap` takes any word behind `--ranges` and `--placement`**, and the program says which ones are names: a list of
 //!   names in `clap`'s declaration is a reference, and no definition can name the place in memory that it refers to.
-//! - **Each number is read again, in its range** (`number_of`), where `clap` has tested it.
+//! - **Each number is read again, in its range** (`number_of`), where `clap` has tested it. Where `--large` may stand, `clap`
+//!   takes the larger range of `--slots`, and which one holds is said by what words ask for (`slots_given`): a range of
+//!   `clap`'s hangs on no other argument.
 #![tactic(auto)]
 
 ghost use Rattle.std.specs.Prelude.{◌≡◌, ◌≤◌, false, IfSome};
 ghost use Rattle.clap.specs.Words.{rule_of, rows_of, found_of};
-ghost use Rattle.option_words.specs.Options.{mode_in, number_position, number_within, placement_in, placement_option, ranges_option, slots_option, text_of as text_in, trace_flag};
+ghost use Rattle.option_words.specs.Options.{mode_in, number_position, number_within, placement_in, placement_option, ranges_option, slots_option, text_of as text_in, trace_flag, large_flag};
 
 pub use batch_order::Placement;
 use clap::builder::ValueParser;
@@ -35,15 +38,15 @@ pub enum WordsFault {
     Memory,
 }
 
-/// How many slots are in use.
-pub fn slots_arg<'a>(alloc: Global) -> Arg<'a>
-    ensures rule { rule_of result ≡ slots_option }
+/// How many slots are in use, of so many at most.
+pub fn slots_arg<'a>(alloc: Global, most: u32) -> Arg<'a>
+    ensures rule { rule_of result ≡ slots_option most }
     ensures global { result.global ≡ false }
 {
     Arg::new(alloc, "slots")
         .long("slots")
         .action(ArgAction::Set)
-        .value_parser(clap::value_parser!(u64).range(1..4097))
+        .value_parser(ValueParser::unsigned(1, u64::from(most)))
         .default_value("4096")
 }
 
@@ -76,6 +79,16 @@ pub fn trace_arg<'a>(alloc: Global) -> Arg<'a>
 {
     Arg::new(alloc, "trace")
         .long("trace")
+        .action(ArgAction::SetTrue)
+}
+
+/// Whether tables, batches and scripts may have the large sizes.
+pub fn large_arg<'a>(alloc: Global) -> Arg<'a>
+    ensures rule { rule_of result ≡ large_flag }
+    ensures global { result.global ≡ false }
+{
+    Arg::new(alloc, "large")
+        .long("large")
         .action(ArgAction::SetTrue)
 }
 

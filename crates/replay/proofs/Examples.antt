@@ -13,6 +13,7 @@ use Rattle.report_lines.specs.declared.Family.TheVariants.{Route, Acl, Route6, A
 use Rattle.replay.specs.declared.Act.TheVariants.{Commit}
 use Rattle.script_runs.specs.Script.{Whole, FaultAt}
 use Rattle.replay.specs.Script.{Reading, script_of}
+use Rattle.report_lines.specs.Sizes.{usual_sizes}
 use Rattle.report_lines.specs.Text.{lane_text, number_text, tag_text, fault_line, usage_line}
 use Rattle.replay.specs.Text.{packet_line, probe_line, write_line, accepted_line, refused_line, restarted_line, end_line}
 
@@ -116,10 +117,10 @@ usage = refl
 commits : Reading
 commits line = Ok (Some Commit)
 
-bad-byte : (script_of commits (codes "x" ++ 10 ∷ 200 ∷ [])).last ≡ FaultAt 2 (codes "bad byte")
+bad-byte : (script_of usual_sizes commits (codes "x" ++ 10 ∷ 200 ∷ [])).last ≡ FaultAt 2 (codes "bad byte")
 unfolding commits
 bad-byte = refl
 
-whole : (script_of commits (codes "x" ++ 10 ∷ codes "y")).last ≡ Whole
+whole : (script_of usual_sizes commits (codes "x" ++ 10 ∷ codes "y")).last ≡ Whole
 unfolding commits
 whole = refl

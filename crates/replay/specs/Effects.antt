@@ -18,8 +18,8 @@ use Rattle.replay.specs.Text.{probe_line, write_line, named_line, drain_line}
 use Rattle.report_lines.specs.Text.{family_version}
 
 -- what the words of a command line ask for: the slots in use, the encoding of ranges, where insertions aim, the family,
--- a trace, after how many further writes a probe's word is searched, a report in JSON, a trace by names, and removals
--- before the rest of a commit where they may go first
+-- a trace, after how many further writes a probe's word is searched, a report in JSON, a trace by names, removals
+-- before the rest of a commit where they may go first, and tables, batches and scripts of the large sizes
 pub record Setting : Type 0 where
   pub slots : ℕ
   pub mode : Mode
@@ -30,6 +30,7 @@ pub record Setting : Type 0 where
   pub json : Bool
   pub names : Bool
   pub parts : Bool
+  pub large : Bool
 
 -- What a run does to the outside: it writes or drains the device, or it prints a line.
 pub data Effect : Type 0 where

@@ -36,6 +36,7 @@ telling manager watch =
       json = watch.json;
       names = watch.names;
       parts = watch.parts;
+      large = watch.large;
     }
 
 -- it has come further by some actions

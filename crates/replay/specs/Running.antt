@@ -47,7 +47,7 @@ use Rattle.replay.specs.Carried.{IsAt, Carries, CutsAtLine, CutsAtWrite, Wants}
 
 -- what is told of each write: how rules are named, whether a trace is wanted, after how many further writes a probe's
 -- word is searched, whether all is told in JSON, whether a trace tells what a write does, whether removals go first where
--- they may, which is told of no write, and the keys that are probed
+-- they may and whether large batches may wait, which are told of no write, and the keys that are probed
 pub record Watching : Type 0 where
   pub family : Family
   pub trace : Bool
@@ -55,6 +55,7 @@ pub record Watching : Type 0 where
   pub json : Bool
   pub names : Bool
   pub parts : Bool
+  pub large : Bool
   pub probes : List Key
 
 -- The manager, what is told of each write, the pending batch, what is asked for beside it, what the report counts,
@@ -68,6 +69,7 @@ pub record Running : Type 0 where
   pub json : Bool
   pub names : Bool
   pub parts : Bool
+  pub large : Bool
   pub probes : List Key
   pub pending : List Change
   pub asked : Requested
@@ -82,7 +84,7 @@ pub record Running : Type 0 where
 
 -- what a run tells of each write
 abbrev pub watching : Running → Watching
-watching run = record { family = run.family; trace = run.trace; depth = run.depth; json = run.json; names = run.names; parts = run.parts; probes = run.probes }
+watching run = record { family = run.family; trace = run.trace; depth = run.depth; json = run.json; names = run.names; parts = run.parts; large = run.large; probes = run.probes }
 
 -- what the words of a command line asked for
 abbrev pub setting_of : Running → Setting
@@ -97,6 +99,7 @@ setting_of run =
       json = run.json;
       names = run.names;
       parts = run.parts;
+      large = run.large;
     }
 
 -- where the run stands, over a device of so many slots
@@ -126,6 +129,7 @@ begun slots mode placement family trace depth json names =
       json = json;
       names = names;
       parts = false;
+      large = false;
       probes = [];
       pending = [];
       asked = Nothing;
@@ -246,7 +250,7 @@ pub record IsRun (run : Running) : Type 0 where
   pub some_slots : 1 ≤ run.manager.slots
   pub most_slots : run.manager.slots ≤ most_slots
   pub size : length run.manager.state.slots ≡ run.manager.slots
-  pub few : run.writes ≤ run.commits * (2 ^ 40 - 1)
+  pub few : run.writes ≤ run.commits * (2 ^ 36 - 1)
   pub shows : ShowsRules run.manager
   pub halfway : IsSome run.manager.held → IsMidCommit run
   pub idle : run.manager.held ≡ None → (run.told ≡ 0) × (run.waiting ≡ 0) × (run.fate ≡ Finishes)

@@ -46,7 +46,7 @@ impl Run {
         requires whole { self.old.broken ≡ false }
         requires room { HasRoomBothWays self.old.manager.held (D.view device.old).spare }
         requires stands { IsToCrash self.old.fate → IsAt (D.view device.old).slots (D.view device.old).events (progress_of (D.view device.old).slots self.old) }
-        requires commits { self.old.commits < 2 ^ 24 }
+        requires commits { self.old.commits < 2 ^ 28 }
         requires told { self.old.json ≡ true → self.old.fate ≡ Fate.Finishes }
         ensures resumes { (which : Bool) → (before : Progress) → IsUnfinished (D.view device.old).slots before (opened (setting_of self.old) self.old.commits self.old.pending) self.old
             → IsAt (D.view device.old).slots (D.view device.old).events (progress_of (D.view device.old).slots self.old)
@@ -83,7 +83,7 @@ impl Run {
         requires whole { self.old.broken ≡ false }
         requires room { HasRoomBothWays self.old.manager.held (D.view device.old).spare }
         requires stands { IsToCrash self.old.fate → IsAt (D.view device.old).slots (D.view device.old).events (progress_of (D.view device.old).slots self.old) }
-        requires commits { self.old.commits < 2 ^ 24 }
+        requires commits { self.old.commits < 2 ^ 28 }
         ensures resumes { (which : Bool) → (before : Progress) → (front : List Effect) → IsUnfinished (D.view device.old).slots before front self.old
             → IsAt (D.view device.old).slots (D.view device.old).events (progress_of (D.view device.old).slots self.old)
             → AreCurrent (live_now self.old.manager) (D.view device.old).flight
@@ -288,7 +288,7 @@ impl Run {
         requires held { IsSome self.old.manager.held }
         requires no_turn { IfSome (turn_of self.old.fate) (λ after. ¬ (HasMoreThan after self.old)) }
         requires room { HasRoomBothWays self.old.manager.held (D.view device.old).spare }
-        requires commits { self.old.commits < 2 ^ 24 }
+        requires commits { self.old.commits < 2 ^ 28 }
         ensures resumes { (which : Bool) → (before : Progress) → (front : List Effect) → IsUnfinished (D.view device.old).slots before front self.old
             → IsAt (D.view device.old).slots (D.view device.old).events (progress_of (D.view device.old).slots self.old)
             → AreCurrent (live_now self.old.manager) (D.view device.old).flight
@@ -338,7 +338,7 @@ impl Run {
     /// Counts a commit, and drops its batch.
     pub(crate) fn count_commit(&mut self)
         requires idle { self.old.manager.held ≡ None }
-        requires commits { self.old.commits < 2 ^ 24 }
+        requires commits { self.old.commits < 2 ^ 28 }
         ensures { self.new ≡ record self.old { pending = []; commits = self.old.commits + 1 } }
     {
         self.pending.clear();

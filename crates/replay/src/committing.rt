@@ -41,7 +41,7 @@ impl Run {
         requires told { self.old.json ≡ true → fate ≡ Fate.Finishes }
         requires whole { self.old.broken ≡ false }
         requires stands { IsToCrash fate → IsAt (D.view device.old).slots (D.view device.old).events (progress_of (D.view device.old).slots self.old) }
-        requires commits { self.old.commits < 2 ^ 24 }
+        requires commits { self.old.commits < 2 ^ 28 }
         ensures acts { (which : Bool) → ComesTo (D.view device.old).slots self.old (commit_act fate) self.new result
             (D.view device.old).events (D.view device.new).events (counted which (K.taken sink.old) (K.accepted sink.old)) (counted which (K.taken sink.new) (K.accepted sink.new)) }
         ensures taken { AnswersHeld None result }
@@ -99,7 +99,7 @@ impl Run {
         requires told { self.old.json ≡ true → fate ≡ Fate.Finishes }
         requires whole { self.old.broken ≡ false }
         requires stands { IsToCrash fate → IsAt (D.view device.old).slots (D.view device.old).events (progress_of (D.view device.old).slots self.old) }
-        requires commits { self.old.commits < 2 ^ 24 }
+        requires commits { self.old.commits < 2 ^ 28 }
         ensures acts { (which : Bool) → ComesTo (D.view device.old).slots self.old (commit_act fate) self.new result
             (D.view device.old).events (D.view device.new).events (counted which (K.taken sink.old) (K.accepted sink.old)) (counted which (K.taken sink.new) (K.accepted sink.new)) }
         ensures taken { AnswersHeld None result }
@@ -165,7 +165,7 @@ impl Run {
         requires told { self.old.json ≡ true → fate ≡ Fate.Finishes }
         requires whole { self.old.broken ≡ false }
         requires stands { IsToCrash fate → IsAt (D.view device.old).slots (D.view device.old).events (progress_of (D.view device.old).slots self.old) }
-        requires commits { self.old.commits < 2 ^ 24 }
+        requires commits { self.old.commits < 2 ^ 28 }
         ensures acts { (which : Bool) → ComesTo (D.view device.old).slots self.old (commit_act fate) self.new result
             (D.view device.old).events (D.view device.new).events (counted which (K.taken sink.old) (K.accepted sink.old)) (counted which (K.taken sink.new) (K.accepted sink.new)) }
         ensures taken { AnswersHeld None result }
@@ -199,7 +199,7 @@ impl Run {
     // Counts a commit that is refused, drops its batch, and writes its line.
     fn refuse<K: Sink>(&mut self, rejection: Rejection, sink: &mut K) -> Result<(), ActFault>
         requires idle { self.old.manager.held ≡ None }
-        requires commits { self.old.commits < 2 ^ 24 }
+        requires commits { self.old.commits < 2 ^ 28 }
         ensures refused { self.new ≡ record self.old { pending = []; asked = Requested.Nothing; commits = self.old.commits + 1; refused = true } }
         ensures line { WritesLine K.taken K.accepted K.faults sink.old sink.new (refusal_line (setting_of self.old) self.old.commits (verdict_told rejection)) result }
         ensures kind { IfErr result (λ fault. fault ≡ ActFault.Stopped RunFault.Sink) }

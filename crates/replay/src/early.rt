@@ -35,6 +35,22 @@ impl Run {
         self
     }
 
+    /// Whether large batches may wait.
+    pub fn is_large(&self) -> bool
+        ensures { result ≡ self.now.large }
+    {
+        self.watch.is_large()
+    }
+
+    /// The run, of which from now on up to 1,048,576 changes may wait for a commit, or 4,096.
+    pub fn with_large(mut self, large: bool) -> Run
+        requires idle { self.manager.held ≡ None }
+        ensures { result ≡ record self { large = large } }
+    {
+        self.watch.put_large(large);
+        self
+    }
+
     /// Parts what is pending in two, where removals are to go first and some may: what is pending is these removals then,
     /// to be committed by `Act::Commit` as any batch is, with a line of its own, and the answer is what is left behind them,
     /// which `join` has pending again. Both are accepted then, the second over the set that the first leaves. Where the set

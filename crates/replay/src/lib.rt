@@ -54,7 +54,7 @@
 //!   end. A trial hands over what undoes its writes, to its own manager and without memory (`take_back`), a crash what
 //!   another manager plans (`restart`). What a trial makes is stated as one list, there and back (`course_of` in
 //!   `specs/Running`), so `resume` goes on with one that a device stopped on either way. Its line counts both ways, since
-//!   the device made both. A commit's writes are below `2^40`, twice those of a segment. `apply` and `resume` ask for room
+//!   the device made both. A commit's writes are below `2^36`, twice those of a segment. `apply` and `resume` ask for room
 //!   for the way back, which `prepare` reserves.
 //! - **`crash K` is one commit with one list of actions** (`actions_over` in `specs/Run`): those up to the crash,
 //!   without a drain that is due then, and those of the plan that goes on. So lines, numbers and words in flight of
@@ -177,7 +177,7 @@ pub enum Act {
 /// Why an act isn't carried out to its end.
 #[derive(Clone, Copy, Debug, PartialEq, Eq, Error)]
 pub enum ActFault {
-    /// 4,096 changes are pending. Nothing has changed.
+    /// As many changes are pending as may wait, 4,096 or 1,048,576. Nothing has changed.
     #[error("batch full")]
     BatchFull,
     /// A whole new set can't be begun while changes are pending. Nothing has changed.

@@ -12,6 +12,7 @@ ghost use Rattle.settled_changes.specs.Requested.{changes_in};
 ghost use Rattle.replay.specs.Run.{Progress, ending, settled_at};
 ghost use Rattle.replay.specs.Script.{limit_fault};
 ghost use Rattle.report_lines.specs.Outside.{WritesLine};
+ghost use Rattle.report_lines.specs.Sizes.{sizes_by};
 ghost use Rattle.replay.specs.Outside.{Leaves, outside};
 ghost use Rattle.replay.specs.Carried.{IsAt};
 ghost use Rattle.replay.specs.Crashing.{memory_wanted};
@@ -60,9 +61,9 @@ impl Model for Run {
 
     ghost Value = { Running };
 
-    ghost view = { λ r. record { manager = r.manager; family = r.watch.family; trace = r.watch.trace; depth = r.watch.depth; json = r.watch.json; names = r.watch.names; parts = r.watch.parts; probes = r.watch.probes; pending = r.pending; asked = r.asked; commits = r.commits; writes = r.writes; refused = r.refused; early = r.early; told = r.count.told; waiting = r.count.waiting; fate = r.fate; broken = r.broken } };
+    ghost view = { λ r. record { manager = r.manager; family = r.watch.family; trace = r.watch.trace; depth = r.watch.depth; json = r.watch.json; names = r.watch.names; parts = r.watch.parts; large = r.watch.large; probes = r.watch.probes; pending = r.pending; asked = r.asked; commits = r.commits; writes = r.writes; refused = r.refused; early = r.early; told = r.count.told; waiting = r.count.waiting; fate = r.fate; broken = r.broken } };
 
-    ghost invariant = { λ r. IsRun (record { manager = r.manager; family = r.watch.family; trace = r.watch.trace; depth = r.watch.depth; json = r.watch.json; names = r.watch.names; parts = r.watch.parts; probes = r.watch.probes; pending = r.pending; asked = r.asked; commits = r.commits; writes = r.writes; refused = r.refused; early = r.early; told = r.count.told; waiting = r.count.waiting; fate = r.fate; broken = r.broken }) };
+    ghost invariant = { λ r. IsRun (record { manager = r.manager; family = r.watch.family; trace = r.watch.trace; depth = r.watch.depth; json = r.watch.json; names = r.watch.names; parts = r.watch.parts; large = r.watch.large; probes = r.watch.probes; pending = r.pending; asked = r.asked; commits = r.commits; writes = r.writes; refused = r.refused; early = r.early; told = r.count.told; waiting = r.count.waiting; fate = r.fate; broken = r.broken }) };
 }
 
 impl Run {
@@ -132,14 +133,15 @@ impl Run {
     /// In a script of routes each rule that is added is one of an IPv4 prefix. A run that reports in JSON takes neither
     /// a trial nor a crash, and of commands those whose numbers are within the limits of a trace. The device is where the
     /// run stands: it was blank before the first act, and nobody else has written it since. The run has made fewer than
-    /// 16,777,216 commits.
+    /// 268,435,456 commits.
     ///
-    /// A change joins the pending batch. With 4,096 changes pending the answer is `BatchFull`, and nothing has
-    /// changed. One that doesn't ask what is there has the batch settled over the set at its commit, to a batch of
-    /// strict commands that leads where its changes say, one after the other, so that of several of these the last counts;
-    /// where a strict change and such a one name the same rule, the commit is refused by the later of the two. `All` has the
-    /// changes from there to the commit make the whole new set, what they make of no rules, and a commit right behind it
-    /// leaves none. With changes pending the answer to it is `ChangesPending`, and nothing has changed.
+    /// A change joins the pending batch. With 4,096 changes pending, or 1,048,576 where large batches may wait, the answer is
+    /// `BatchFull`, and nothing has changed. One that doesn't ask what is there has the batch settled over the set at its
+    /// commit, to a batch of strict commands that leads where its changes say, one after the other, so that of several of
+    /// these the last counts; where a strict change and such a one name the same rule, the commit is refused by the later of
+    /// the two. `All` has the changes from there to the commit make the whole new set, what they make of no rules, and a
+    /// commit right behind it leaves none. With changes pending the answer to it is `ChangesPending`, and nothing has
+    /// changed.
     ///
     /// A probe is looked up after each later write. With 16 probes the answer is `ProbesFull`, and nothing has
     /// changed. A packet's line is what the set answers; the device is asked, which holds the run's writes and so
@@ -186,11 +188,11 @@ impl Run {
         requires told { IsToldIn self.old.json (family_version self.old.family) act.now }
         requires whole { self.old.broken ≡ false }
         requires stands { IsCrash act.now → IsAt (D.view device.old).slots (D.view device.old).events (progress_of (D.view device.old).slots self.old) }
-        requires commits { self.old.commits < 2 ^ 24 }
+        requires commits { self.old.commits < 2 ^ 28 }
         ensures acts { (which : Bool) → ComesTo (D.view device.old).slots self.old act.now self.new result
             (D.view device.old).events (D.view device.new).events (counted which (K.taken sink.old) (K.accepted sink.old)) (counted which (K.taken sink.new) (K.accepted sink.new)) }
         ensures held { AnswersHeld self.old.manager.held result }
-        ensures limit { self.old.manager.held ≡ None → limit_text result ≡ limit_fault act.now (changes_in self.old.pending self.old.asked) (length self.old.probes) }
+        ensures limit { self.old.manager.held ≡ None → limit_text result ≡ limit_fault (sizes_by self.old.large).commands act.now (changes_in self.old.pending self.old.asked) (length self.old.probes) }
         ensures idle { OnOk result (self.new.manager.held ≡ None) }
         ensures unfinished { (which : Bool) → result ≡ Err (ActFault.Stopped RunFault.Device) → IsAt (D.view device.old).slots (D.view device.old).events (progress_of (D.view device.old).slots self.old)
             → StaysUnfinished (D.view device.old).slots (settled_at (progress_of (D.view device.old).slots self.old)) act.now [] self.new
@@ -231,7 +233,7 @@ impl Run {
         requires whole { self.old.broken ≡ false }
         requires room { HasRoomBothWays self.old.manager.held (D.view device.old).spare }
         requires stands { IsToCrash self.old.fate → IsAt (D.view device.old).slots (D.view device.old).events (progress_of (D.view device.old).slots self.old) }
-        requires commits { self.old.commits < 2 ^ 24 }
+        requires commits { self.old.commits < 2 ^ 28 }
         ensures resumes { (which : Bool) → (before : Progress) → (front : List Effect) → IsUnfinished (D.view device.old).slots before front self.old
             → IsAt (D.view device.old).slots (D.view device.old).events (progress_of (D.view device.old).slots self.old)
             → AreCurrent (live_now self.old.manager) (D.view device.old).flight
@@ -280,11 +282,11 @@ impl Run {
         requires idle { self.old.manager.held ≡ None }
         requires whole { self.old.broken ≡ false }
         requires stands { IsCrash act.now → IsAt (D.view device.old).slots (D.view device.old).events (progress_of (D.view device.old).slots self.old) }
-        requires commits { self.old.commits < 2 ^ 24 }
+        requires commits { self.old.commits < 2 ^ 28 }
         ensures acts { (which : Bool) → ComesTo (D.view device.old).slots self.old act.now self.new result
             (D.view device.old).events (D.view device.new).events (counted which (K.taken sink.old) (K.accepted sink.old)) (counted which (K.taken sink.new) (K.accepted sink.new)) }
         ensures taken { AnswersHeld None result }
-        ensures limit { limit_text result ≡ limit_fault act.now (changes_in self.old.pending self.old.asked) (length self.old.probes) }
+        ensures limit { limit_text result ≡ limit_fault (sizes_by self.old.large).commands act.now (changes_in self.old.pending self.old.asked) (length self.old.probes) }
         ensures idle { OnOk result (self.new.manager.held ≡ None) }
         ensures unfinished { (which : Bool) → result ≡ Err (ActFault.Stopped RunFault.Device) → IsAt (D.view device.old).slots (D.view device.old).events (progress_of (D.view device.old).slots self.old)
             → StaysUnfinished (D.view device.old).slots (settled_at (progress_of (D.view device.old).slots self.old)) act.now [] self.new
@@ -328,7 +330,7 @@ impl Run {
     fn probe(&mut self, key: Key) -> Result<(), ActFault>
         requires idle { self.old.manager.held ≡ None }
         ensures probed { OnOk result (self.new ≡ record self.old { probes = self.old.probes ++ key ∷ [] }) }
-        ensures limit { limit_text result ≡ limit_fault (Act.Probe key) (length self.old.pending) (length self.old.probes) }
+        ensures limit { limit_text result ≡ limit_fault (sizes_by self.old.large).commands (Act.Probe key) (length self.old.pending) (length self.old.probes) }
         ensures unchanged { OnErr result (self.new ≡ self.old) }
         ensures kind { IfErr result (λ fault. fault ≡ ActFault.ProbesFull) }
     {

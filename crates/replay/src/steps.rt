@@ -50,7 +50,7 @@ pub(crate) fn make_up_to<K: Sink, D: ReadBack>(
     requires room { HasRoomBothWays manager.old.held (D.view device.old).spare }
     requires told { count.old.told ≤ after }
     requires more { IfSome manager.old.held (λ held. after < count.old.told + length (writes_in held.actions)) }
-    requires few { IfSome manager.old.held (λ held. count.old.told + length (writes_in held.actions) ≤ 2 ^ 40) }
+    requires few { IfSome manager.old.held (λ held. count.old.told + length (writes_in held.actions) ≤ 2 ^ 36) }
     ensures makes { (which : Bool) → MakesUpTo (IsSeen (D.view device.old).slots (D.view device.old).events (D.view device.old).flight manager.old) after watch.now (D.view device.old).slots
         (snapshot manager.old count.old (outside (D.view device.old).events (counted which (K.taken sink.old) (K.accepted sink.old))))
         (snapshot manager.new count.new (outside (D.view device.new).events (counted which (K.taken sink.new) (K.accepted sink.new)))) result }
@@ -86,7 +86,7 @@ pub(crate) fn make_until<K: Sink, D: ReadBack>(
     requires held { IsSome manager.old.held }
     requires told { IsWithinTurn stop count.old.told }
     requires room { HasRoomBothWays manager.old.held (D.view device.old).spare }
-    requires few { IfSome manager.old.held (λ held. count.old.told + length (writes_in held.actions) ≤ 2 ^ 40) }
+    requires few { IfSome manager.old.held (λ held. count.old.told + length (writes_in held.actions) ≤ 2 ^ 36) }
     ensures makes { (which : Bool) → MakesUntil (IsSeen (D.view device.old).slots (D.view device.old).events (D.view device.old).flight manager.old) stop watch.now (D.view device.old).slots
         (snapshot manager.old count.old (outside (D.view device.old).events (counted which (K.taken sink.old) (K.accepted sink.old))))
         (snapshot manager.new count.new (outside (D.view device.new).events (counted which (K.taken sink.new) (K.accepted sink.new)))) result }
@@ -155,7 +155,7 @@ fn tell_write<K: Sink, D: Device>(
 ) -> Result<(), Failed>
     requires words { AreOf (probes_told watch.now.json watch.now.probes) count.old.waiting (D.view device.old).flight }
     requires few { count.old.waiting ≤ watch.now.depth }
-    requires told { count.old.told < 2 ^ 40 }
+    requires told { count.old.told < 2 ^ 36 }
     ensures told { count.new.told ≡ count.old.told + 1 }
     ensures waiting { count.new.waiting ≡ min (count.old.waiting + 1) watch.now.depth }
     ensures lines { WritesLines K.taken K.accepted K.faults sink.old sink.new

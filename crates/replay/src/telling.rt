@@ -20,7 +20,7 @@ use trace_file::TraceLine;
 impl Run {
     /// Tells, in JSON, that a commit is accepted, and of its commands. The run is one, as its type says.
     pub(crate) fn open<K: Sink>(&self, sink: &mut K) -> Result<(), Failed>
-        requires commits { self.now.commits < 2 ^ 24 }
+        requires commits { self.now.commits < 2 ^ 28 }
         ensures lines { WritesLines K.taken K.accepted K.faults sink.old sink.new (opened (setting_of self.now) self.now.commits self.now.pending) result }
         ensures run { IsRun self.now }
     {
@@ -34,7 +34,7 @@ impl Run {
     // The number of a commit that is accepted, behind the head where that is due, and its commands.
     fn tell_commands<K: Sink>(&self, sink: &mut K) -> Result<(), Failed>
         requires json { self.now.json ≡ true }
-        requires commits { self.now.commits < 2 ^ 24 }
+        requires commits { self.now.commits < 2 ^ 28 }
         ensures { WritesLines K.taken K.accepted K.faults sink.old sink.new (opened (setting_of self.now) self.now.commits self.now.pending) result }
     {
         let line = TraceLine::Commit(self.commits + 1);
@@ -63,7 +63,7 @@ impl Run {
         rejection: &Rejection,
         sink: &mut K,
     ) -> Result<(), Failed>
-        requires commits { self.now.commits < 2 ^ 24 }
+        requires commits { self.now.commits < 2 ^ 28 }
         ensures { WritesLine K.taken K.accepted K.faults sink.old sink.new (refusal_line (setting_of self.now) self.now.commits (verdict_told rejection.now)) result }
     {
         let commit = self.commits + 1;

@@ -57,6 +57,8 @@ pub(crate) struct Watch {
     names: bool,
     // Whether removals go first where they may: of a write it tells nothing.
     parts: bool,
+    // Whether large batches may wait: likewise.
+    large: bool,
     // There is room for the most probes from the start, so that a probe takes no memory.
     probes: Vec<Key>,
 }
@@ -67,7 +69,7 @@ impl Model for Watch {
 
     ghost Value = { Watching };
 
-    ghost view = { λ w. record { family = w.family; trace = w.trace; depth = w.depth; json = w.json; names = w.names; parts = w.parts; probes = w.probes.items } };
+    ghost view = { λ w. record { family = w.family; trace = w.trace; depth = w.depth; json = w.json; names = w.names; parts = w.parts; large = w.large; probes = w.probes.items } };
 
     ghost invariant = { λ w. (length w.probes.items ≤ 16) × (16 ≤ vec_capacity w.probes) × (w.depth ≤ 15) };
 }
@@ -83,7 +85,7 @@ impl Watch {
         names: bool,
     ) -> Result<Watch, AllocError>
         requires depth { depth ≤ 15 }
-        ensures { IfOk result (λ watch. watch ≡ record { family = family; trace = trace; depth = depth; json = json; names = names; parts = false; probes = [] }) }
+        ensures { IfOk result (λ watch. watch ≡ record { family = family; trace = trace; depth = depth; json = json; names = names; parts = false; large = false; probes = [] }) }
     {
         Ok(Watch {
             family,
@@ -92,6 +94,7 @@ impl Watch {
             json,
             names,
             parts: false,
+            large: false,
             probes: Vec::with_capacity(alloc, MOST_PROBES)?,
         })
     }
@@ -108,6 +111,20 @@ impl Watch {
         ensures { self.new ≡ record self.old { parts = parts } }
     {
         self.parts = parts;
+    }
+
+    /// Whether large batches may wait.
+    pub(crate) fn is_large(&self) -> bool
+        ensures { result ≡ self.now.large }
+    {
+        self.large
+    }
+
+    /// Large batches may wait, or they may not.
+    pub(crate) fn put_large(&mut self, large: bool)
+        ensures { self.new ≡ record self.old { large = large } }
+    {
+        self.large = large;
     }
 
     /// How the rules are named.

@@ -14,6 +14,8 @@
 //! - **An entry is told by names whatever it is.** A prefix is as long as its mask has bits, ports go from their value on as
 //!   far as their mask leaves open, a protocol that is tested is told whole. Of the entries that a manager writes, whose masks
 //!   are prefixes, blocks and whole fields, this is what they test; of another one it is less than that.
+//! - **How large scripts, tables and batches may be is said here** ([`Sizes`], `sizes_by`): it is the lowest crate over those
+//!   that have the three limits, and what runs scripts of one table or of two stands above it.
 //! - **A line has room for 400 bytes.** The longest has 295: a trace line of IPv6. The proofs know no address to be below
 //!   `2^32` in the text of an IPv4 one, so two answers in one line ask for more room than they ever fill.
 #![tactic(auto)]
@@ -25,11 +27,13 @@ mod any_report;
 mod deed;
 mod named_line;
 mod report_line;
+mod sizes;
 
 pub use any_report::{write_fault, write_text};
 pub use deed::Deed;
 pub use report_line::{LINE_ROOM, ReportLine};
 use rule_model::IpVersion;
+pub use sizes::{Sizes, sizes_by};
 
 /// What the rules of a script are, and of which version of IP. It decides how lines are read, how the report names
 /// rules, and which bounds hold: among routes nothing is crossed, and an insertion takes at most 33 writes of IPv4, 129

@@ -47,7 +47,7 @@ pub fn apply<K: Sink, D: ReadBack>(
 ) -> Result<(), ActFault>
     requires going { CanGoOn run.old (D.view device.old) }
     requires act { IsActOf run.old.family act.now }
-    requires few { run.old.commits < 2 ^ 24 }
+    requires few { run.old.commits < 2 ^ 28 }
     ensures going { result ≢ Err (ActFault.Stopped RunFault.Sink) → result ≢ Err (ActFault.Stopped RunFault.Memory) → CanGoOn run.new (D.view device.new) }
     ensures lost { result ≡ Err (ActFault.Stopped RunFault.Memory) → (D.view device.new).events ≢ (D.view device.old).events → run.new.broken ≡ true }
     ensures family { run.new.family ≡ run.old.family }
@@ -63,7 +63,7 @@ pub fn resume<K: Sink, D: ReadBack>(
     device: &mut D,
 ) -> Result<(), RunFault>
     requires going { CanGoOn run.old (D.view device.old) }
-    requires few { run.old.commits < 2 ^ 24 }
+    requires few { run.old.commits < 2 ^ 28 }
     ensures going { result ≢ Err RunFault.Sink → result ≢ Err RunFault.Memory → CanGoOn run.new (D.view device.new) }
     ensures family { run.new.family ≡ run.old.family }
     ensures few { run.new.commits ≤ run.old.commits + 1 }

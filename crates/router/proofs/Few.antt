@@ -149,7 +149,7 @@ module _ (slots : ℕ) (old : SplitManaged) (batch : List Command) (counts : Spl
   left_is : left_of slots new ≡ left_from (state_on slots new) (since_of new) new.whole.state 0 actions
   left_is = ap₂ (λ (n : ℕ) (held : Option HeldCommit). left_of_held (state_on slots new) (since_of new) new.whole.state n held) holds.made held_is
 
-  few_writes : length holds.whole.1.made ≤ 2 ^ 39
+  few_writes : length holds.whole.1.made ≤ 2 ^ 35
   few_writes = holds.whole.1.few
 
   pub few_parts : length (written (left_of slots new)) ≤ 2 ^ 41

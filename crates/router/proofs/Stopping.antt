@@ -60,7 +60,7 @@ step_made slots made old now events events' has grown at = grown ∙ (ap (λ (so
 
 -- the words of a command line, by the planner of the list
 abbrev setting_by : Managed → Routing → Setting
-setting_by whole old = record { slots = whole.slots; mode = whole.mode; placement = whole.placement; version = old.version; trace = old.trace }
+setting_by whole old = record { slots = whole.slots; mode = whole.mode; placement = whole.placement; version = old.version; trace = old.trace; large = old.large }
 
 list_setting : (slots : ℕ) (made : List SplitAction) (old new : Routing) → HasMade slots made old.listed new.listed → new ≡ record old { listed = new.listed } → setting_of new ≡ setting_of old
 list_setting slots made old new has is =

@@ -22,8 +22,8 @@ use Rattle.router.specs.declared.RouterFault.TheVariants.{BatchFull, Sink, Devic
 use Rattle.router.specs.Run.{DeviceSlots, Progress, Setting, Table}
 use Rattle.router.specs.Script.{Pending}
 
--- The manager and the pending batch of each table, the version of IP, whether parts are told, what the report counts, and
--- whether the sink failed.
+-- The manager and the pending batch of each table, the version of IP, whether parts are told, whether large batches may wait,
+-- what the report counts, and whether the sink failed.
 pub record Routing : Type 0 where
   pub listed : SplitManaged
   pub routed : SplitManaged
@@ -31,6 +31,7 @@ pub record Routing : Type 0 where
   pub route_batch : List Command
   pub version : IpVersion
   pub trace : Bool
+  pub large : Bool
   pub commits : ℕ
   pub writes : ℕ
   pub refused : Bool
@@ -45,6 +46,7 @@ setting_of router =
       placement = router.listed.whole.placement;
       version = router.version;
       trace = router.trace;
+      large = router.large;
     }
 
 -- where a table stands by its manager and its pending batch
@@ -76,6 +78,7 @@ begun slots mode placement version trace =
       route_batch = [];
       version = version;
       trace = trace;
+      large = false;
       commits = 0;
       writes = 0;
       refused = false;

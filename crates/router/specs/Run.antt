@@ -34,6 +34,7 @@ pub record Setting : Type 0 where
   pub placement : Placement
   pub version : IpVersion
   pub trace : Bool
+  pub large : Bool
 
 -- the slots of both devices
 pub record DeviceSlots : Type 0 where

@@ -117,7 +117,7 @@ impl Router {
         drains: u64,
         sink: &mut K,
     ) -> Result<(), Failed>
-        requires commits { self.now.commits < 2 ^ 24 }
+        requires commits { self.now.commits < 2 ^ 28 }
         ensures { WritesLine K.taken K.accepted K.faults sink.old sink.new (accepted_line (self.now.commits + 1) listed routed drains) result }
     {
         let made = CommitNumbers {
@@ -130,7 +130,7 @@ impl Router {
 
     /// Counts a commit and its writes, and drops both batches.
     pub(crate) fn count_writes(&mut self, listed: u64, routed: u64)
-        requires commits { self.old.commits < 2 ^ 24 }
+        requires commits { self.old.commits < 2 ^ 28 }
         requires list_few { listed ≤ 2 ^ 41 }
         requires route_few { routed ≤ 2 ^ 41 }
         ensures { self.new ≡ record self.old { list_batch = []; route_batch = []; commits = self.old.commits + 1; writes = self.old.writes + (listed + routed) } }

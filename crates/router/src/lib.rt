@@ -81,7 +81,7 @@ pub enum RouterAct {
 /// Why an act isn't carried out to its end.
 #[derive(Clone, Copy, Debug, PartialEq, Eq, Error)]
 pub enum RouterFault {
-    /// The table has 4,096 pending changes. Nothing has changed.
+    /// The table has as many pending changes as may wait, 4,096 or 1,048,576. Nothing has changed.
     #[error("batch full")]
     BatchFull,
     /// The sink failed.

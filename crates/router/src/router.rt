@@ -3,6 +3,7 @@
 ghost use Rattle.std.specs.Prelude.{Bool, false, ◌≡◌, ◌⊎◌, ◌+◌, ◌<◌, ◌≤◌, ◌^◌, ◌++◌, ◌∷◌, [], ℕ, Err, None, IsSome, IfOk, IfErr, OnOk, OnErr, length};
 ghost use Rattle.script_lines.specs.Given.{counted};
 ghost use Rattle.call_history.specs.Cause.{HasCause, IsCounted};
+ghost use Rattle.report_lines.specs.Sizes.{sizes_by};
 ghost use Rattle.report_lines.specs.Told.{verdict_told};
 ghost use Rattle.report_lines.specs.Outside.{WritesLine};
 ghost use Rattle.split_device.specs.Flight.{no_flight};
@@ -19,6 +20,7 @@ use crate::carrying::Halt;
 use crate::committing::Unplanned;
 use crate::report::{Totals, write_end, write_packet, write_refused};
 use crate::{RouterAct, RouterFault, Side};
+use report_lines::sizes_by;
 use rule_model::{IpVersion, Key, key_fields};
 use rule_store::{Batch, Command, PushFault};
 use script_lines::{Failed, Sink};
@@ -38,6 +40,8 @@ pub struct Router {
     pub(crate) version: IpVersion,
     /// Whether each part of a commit has a line.
     pub(crate) trace: bool,
+    /// Whether large batches may wait.
+    large: bool,
     pub(crate) commits: u32,
     pub(crate) writes: u128,
     refused: bool,
@@ -50,9 +54,9 @@ impl Model for Router {
 
     ghost Value = { Routing };
 
-    ghost view = { λ r. record { listed = r.listed; routed = r.routed; list_batch = r.list_batch; route_batch = r.route_batch; version = r.version; trace = r.trace; commits = r.commits; writes = r.writes; refused = r.refused; broken = r.broken } };
+    ghost view = { λ r. record { listed = r.listed; routed = r.routed; list_batch = r.list_batch; route_batch = r.route_batch; version = r.version; trace = r.trace; large = r.large; commits = r.commits; writes = r.writes; refused = r.refused; broken = r.broken } };
 
-    ghost invariant = { λ r. IsRouter (record { listed = r.listed; routed = r.routed; list_batch = r.list_batch; route_batch = r.route_batch; version = r.version; trace = r.trace; commits = r.commits; writes = r.writes; refused = r.refused; broken = r.broken }) };
+    ghost invariant = { λ r. IsRouter (record { listed = r.listed; routed = r.routed; list_batch = r.list_batch; route_batch = r.route_batch; version = r.version; trace = r.trace; large = r.large; commits = r.commits; writes = r.writes; refused = r.refused; broken = r.broken }) };
 }
 
 impl Router {
@@ -80,6 +84,7 @@ impl Router {
             route_batch: Batch::new(alloc),
             version,
             trace,
+            large: false,
             commits: 0,
             writes: 0,
             refused: false,
@@ -87,14 +92,29 @@ impl Router {
         })
     }
 
+    /// Whether large batches may wait.
+    pub fn is_large(&self) -> bool
+        ensures { result ≡ self.now.large }
+    {
+        self.large
+    }
+
+    /// The router, of which from now on up to 1,048,576 changes of each table may wait for a commit, or 4,096.
+    pub fn with_large(mut self, large: bool) -> Router
+        ensures { result ≡ record self { large = large } }
+    {
+        self.large = large;
+        self
+    }
+
     /// Carries out an act of a router's script, over two devices, the list's and the routes', each with at least as many
     /// slots as the router uses, and each where the router stands: it was blank before the first act, and nobody else has
     /// written it since. Nothing is in flight in them while no commit is unfinished. Each route that is added is one of a
-    /// prefix of the router's version of IP. The router has made fewer than 16,777,216 commits.
+    /// prefix of the router's version of IP. The router has made fewer than 268,435,456 commits.
     ///
-    /// A change joins the pending batch of its table. With 4,096 changes pending there the answer is `BatchFull`, and nothing
-    /// has changed; each table counts its own. A packet's line has what the rules of each table answer; the devices are asked,
-    /// which hold what the router made and so answer the same.
+    /// A change joins the pending batch of its table. With 4,096 changes pending there, or 1,048,576 where large batches may
+    /// wait, the answer is `BatchFull`, and nothing has changed; each table counts its own. A packet's line has what the
+    /// rules of each table answer; the devices are asked, which hold what the router made and so answer the same.
     ///
     /// A commit is judged by the set, the batch and the slots of each table alone, the list's first. Where one is refused
     /// neither device is written: a line is written with the table and its first reason, and both sets stay. Where both are
@@ -122,12 +142,12 @@ impl Router {
         requires none_in_flight { IsIdle self.old → (D.flight list.old ≡ no_flight) × (D.flight routes.old ≡ no_flight) }
         requires act { IsActOf self.old.version act.now }
         requires whole { self.old.broken ≡ false }
-        requires commits { self.old.commits < 2 ^ 24 }
+        requires commits { self.old.commits < 2 ^ 28 }
         ensures acts { (which : Bool) → ComesTo (slots_of (D.slot_count list.old) (D.slot_count routes.old)) self.old act.now self.new result
             (outside (D.events list.old) (D.events routes.old) (counted which (K.taken sink.old) (K.accepted sink.old)))
             (outside (D.events list.new) (D.events routes.new) (counted which (K.taken sink.new) (K.accepted sink.new))) }
         ensures held { AnswersHeld (held_left (slots_of (D.slot_count list.old) (D.slot_count routes.old)) self.old) result }
-        ensures limit { IsIdle self.old → limit_text result ≡ limit_fault act.now (pending_of self.old) }
+        ensures limit { IsIdle self.old → limit_text result ≡ limit_fault (sizes_by self.old.large).commands act.now (pending_of self.old) }
         ensures idle { OnOk result (IsIdle self.new) }
         ensures broken { self.new.broken ≡ has_failed result }
         ensures setting { setting_of self.new ≡ setting_of self.old }
@@ -180,12 +200,12 @@ impl Router {
         requires idle { IsIdle self.old }
         requires act { IsActOf self.old.version act.now }
         requires whole { self.old.broken ≡ false }
-        requires commits { self.old.commits < 2 ^ 24 }
+        requires commits { self.old.commits < 2 ^ 28 }
         ensures acts { (which : Bool) → ComesTo (slots_of (D.slot_count list.old) (D.slot_count routes.old)) self.old act.now self.new result
             (outside (D.events list.old) (D.events routes.old) (counted which (K.taken sink.old) (K.accepted sink.old)))
             (outside (D.events list.new) (D.events routes.new) (counted which (K.taken sink.new) (K.accepted sink.new))) }
         ensures taken { IsNotHeld result }
-        ensures limit { limit_text result ≡ limit_fault act.now (pending_of self.old) }
+        ensures limit { limit_text result ≡ limit_fault (sizes_by self.old.large).commands act.now (pending_of self.old) }
         ensures idle { OnOk result (IsIdle self.new) }
         ensures unbroken { self.new.broken ≡ false }
         ensures setting { setting_of self.new ≡ setting_of self.old }
@@ -207,13 +227,14 @@ impl Router {
     fn push(&mut self, side: Side, command: Command) -> Result<(), RouterFault>
         requires change { IsActOf self.old.version (RouterAct.Change side command) }
         ensures pushed { OnOk result (self.new ≡ with_push self.old side command) }
-        ensures limit { limit_text result ≡ limit_fault (RouterAct.Change side command) (pending_of self.old) }
+        ensures limit { limit_text result ≡ limit_fault (sizes_by self.old.large).commands (RouterAct.Change side command) (pending_of self.old) }
         ensures unchanged { OnErr result (self.new ≡ self.old) }
         ensures kind { IfErr result (λ fault. (fault ≡ RouterFault.BatchFull) ⊎ (fault ≡ RouterFault.Memory)) }
     {
+        let most = sizes_by(self.large).commands;
         match side {
-            Side::List => join(&mut self.list_batch, command),
-            Side::Routes => join(&mut self.route_batch, command),
+            Side::List => join(&mut self.list_batch, command, most),
+            Side::Routes => join(&mut self.route_batch, command, most),
         }
     }
 
@@ -255,7 +276,7 @@ impl Router {
         requires route_flight { D.flight routes.old ≡ no_flight }
         requires idle { IsIdle self.old }
         requires whole { self.old.broken ≡ false }
-        requires commits { self.old.commits < 2 ^ 24 }
+        requires commits { self.old.commits < 2 ^ 28 }
         ensures acts { (which : Bool) → ComesTo (slots_of (D.slot_count list.old) (D.slot_count routes.old)) self.old RouterAct.Commit self.new result
             (outside (D.events list.old) (D.events routes.old) (counted which (K.taken sink.old) (K.accepted sink.old)))
             (outside (D.events list.new) (D.events routes.new) (counted which (K.taken sink.new) (K.accepted sink.new))) }
@@ -294,7 +315,7 @@ impl Router {
         requires list_room { length (left_of (D.slot_count list.old) self.old.listed) ≤ D.spare list.old }
         requires route_room { length (left_of (D.slot_count routes.old) self.old.routed) ≤ D.spare routes.old }
         requires whole { self.old.broken ≡ false }
-        requires commits { self.old.commits < 2 ^ 24 }
+        requires commits { self.old.commits < 2 ^ 28 }
         ensures acts { (which : Bool) → (before : Routing) → AreBothTaken before self.old listed routed → ComesTo (slots_of (D.slot_count list.old) (D.slot_count routes.old)) before RouterAct.Commit self.new result
             (outside (D.events list.old) (D.events routes.old) (counted which (K.taken sink.old) (K.accepted sink.old)))
             (outside (D.events list.new) (D.events routes.new) (counted which (K.taken sink.new) (K.accepted sink.new))) }
@@ -330,7 +351,7 @@ impl Router {
         sink: &mut K,
     ) -> Result<(), RouterFault>
         requires idle { IsIdle self.old }
-        requires commits { self.old.commits < 2 ^ 24 }
+        requires commits { self.old.commits < 2 ^ 28 }
         ensures refused { self.new ≡ with_refusal self.old }
         ensures line { WritesLine K.taken K.accepted K.faults sink.old sink.new (refused_line self.old.version side (self.old.commits + 1) (verdict_told rejection)) result }
         ensures kind { IfErr result (λ fault. fault ≡ RouterFault.Sink) }
@@ -351,7 +372,7 @@ impl Router {
         rejection: &Rejection,
         sink: &mut K,
     ) -> Result<(), Failed>
-        requires commits { self.now.commits < 2 ^ 24 }
+        requires commits { self.now.commits < 2 ^ 28 }
         ensures { WritesLine K.taken K.accepted K.faults sink.old sink.new (refused_line self.now.version side (self.now.commits + 1) (verdict_told rejection.now)) result }
     {
         write_refused(sink, self.version, side, self.commits + 1, rejection)
@@ -359,7 +380,7 @@ impl Router {
 
     // Counts a commit, and drops both batches.
     fn count_commit(&mut self)
-        requires commits { self.old.commits < 2 ^ 24 }
+        requires commits { self.old.commits < 2 ^ 28 }
         ensures { self.new ≡ record self.old { list_batch = []; route_batch = []; commits = self.old.commits + 1 } }
     {
         self.list_batch.clear();
@@ -404,14 +425,15 @@ impl Router {
     }
 }
 
-// A change joins a batch.
-fn join(batch: &mut Batch, command: Command) -> Result<(), RouterFault>
+// A change joins a batch, of so many at most.
+fn join(batch: &mut Batch, command: Command, most: u32) -> Result<(), RouterFault>
+    requires { most ≤ MOST_SLOTS }
     ensures pushed { OnOk result (batch.new ≡ batch.old ++ command ∷ []) }
-    ensures limit { limit_text result ≡ full_fault (length batch.old) }
+    ensures limit { limit_text result ≡ full_fault most (length batch.old) }
     ensures unchanged { OnErr result (batch.new ≡ batch.old) }
     ensures kind { IfErr result (λ fault. (fault ≡ RouterFault.BatchFull) ⊎ (fault ≡ RouterFault.Memory)) }
 {
-    match batch.push(command) {
+    match batch.push_within(command, most) {
         Ok(()) => Ok(()),
         Err(PushFault::Full) => Err(RouterFault::BatchFull),
         Err(PushFault::Memory) => Err(RouterFault::Memory),

@@ -1,4 +1,3 @@
-mod NumberTaken
 mod Words
 mod CommandLines
 mod TopCall

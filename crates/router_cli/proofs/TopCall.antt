@@ -53,8 +53,8 @@ pub memory-carried : (job : RouterJob) (slots : DeviceSlots) (left taken : Optio
     → IsRouterJobCarriedOut job slots Memory left left taken taken (made_on list routes)
 memory-carried NoJob slots left taken list routes first second = record { source = refl; devices = blank list routes first second; report = nothing-told usage_line Usage taken }
 memory-carried (Tells text) slots left taken list routes first second = record { source = refl; devices = blank list routes first second; report = nothing-told text Done taken }
-memory-carried (Routes version most mode placement trace) slots None taken list routes first second = tt
-memory-carried (Routes version most mode placement trace) slots (Some old) taken list routes first second = (
+memory-carried (Routes version most mode placement trace large) slots None taken list routes first second = tt
+memory-carried (Routes version most mode placement trace large) slots (Some old) taken list routes first second = (
   record { taken = []; parts = refl; all = λ e. elim e [ inl d ↦ absurd (cc) | inr r ↦ absurd (cc) ] },
   record { effects = []; partial = []; outcome = (inl refl, refl); events_is = ap₂ made_on first second; report_is = Appends-nil taken },
 )
@@ -62,7 +62,7 @@ memory-carried (Routes version most mode placement trace) slots (Some old) taken
 pub memory-ends : (job : RouterJob) (left : Option (List ℕ)) → MayRouterJobEnd job Memory left
 memory-ends NoJob left = inr (inr refl)
 memory-ends (Tells text) left = inr (inr refl)
-memory-ends (Routes version most mode placement trace) left = tt
+memory-ends (Routes version most mode placement trace large) left = tt
 
 not-counted : (A : Type 0) (count : ℕ) → (A → ⊥) → IsCounted A count count
 not-counted A count never = record { later = omega arith; once = omega arith; failed = λ a. absurd (never a); stayed = λ _. refl }
@@ -76,7 +76,7 @@ memory-causes NoJob slots left events before =
     record { write = not-counted _ before.sink (λ e. cc); source = refl; list = refl; routes = refl; ends = inr (inr refl) }
 memory-causes (Tells text) slots left events before =
     record { write = not-counted _ before.sink (λ e. cc); source = refl; list = refl; routes = refl; ends = inr (inr refl) }
-memory-causes (Routes version most mode placement trace) slots left events before = record {
+memory-causes (Routes version most mode placement trace large) slots left events before = record {
   read = not-counted _ before.source (λ e. cc);
   write = not-counted _ before.sink (λ e. cc);
   which = side.List;
@@ -93,8 +93,8 @@ pub hitless-job : (job : RouterJob) (slots : DeviceSlots) (status : Status) (lef
     → IsRouterJobCarriedOut job slots status left_old left_new taken_old taken_new events → IsRouterJobHitless job slots status left_old left_new events
 hitless-job NoJob slots status left_old left_new taken_old taken_new events is = is.devices
 hitless-job (Tells text) slots status left_old left_new taken_old taken_new events is = is.devices
-hitless-job (Routes version most mode placement trace) slots status left_old left_new taken_old taken_new events is =
-    hitless-run (router_reading version) (router_setting version most mode placement trace) slots status left_old left_new taken_old taken_new events is
+hitless-job (Routes version most mode placement trace large) slots status left_old left_new taken_old taken_new events is =
+    hitless-run (router_reading version) (router_setting version most mode placement trace large) slots status left_old left_new taken_old taken_new events is
 
 -- a job that reads nothing, by what was given
 pub promised-none : (job : RouterJob) (slots : DeviceSlots) (status : Status) (given : List (List ℕ)) (taken_old taken_new : Option (List ℕ)) (events : MadeOfBoth)
@@ -112,5 +112,5 @@ promised-none job slots status given taken_old taken_new events carries ends = (
 pub nothing-read : (job : RouterJob) (slots : DeviceSlots) (status : Status) (given : List (List ℕ)) (events : MadeOfBoth) (accepted : List ℕ) → RouterJobReadsInTime job slots status given given events accepted accepted
 nothing-read NoJob slots status given events accepted = refl
 nothing-read (Tells text) slots status given events accepted = refl
-nothing-read (Routes version most mode placement trace) slots status given events accepted =
-    nothing-in-time (router_kind (router_reading version) (router_setting version most mode placement trace) slots) status given events accepted
+nothing-read (Routes version most mode placement trace large) slots status given events accepted =
+    nothing-in-time (router_kind (router_reading version) (router_setting version most mode placement trace large) slots) status given events accepted

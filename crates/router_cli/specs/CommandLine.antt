@@ -9,21 +9,24 @@ use Rattle.clap.specs.declared.error.kind.ErrorKind.{ErrorKind}
 use Rattle.clap.specs.declared.error.kind.ErrorKind.TheVariants as kind
 use Rattle.rule_model.specs.declared.IpVersion.{IpVersion}
 use Rattle.rule_model.specs.declared.IpVersion.TheVariants.{V4, V6}
+use Rattle.slot_order.specs.Order.{most_slots}
+use Rattle.report_lines.specs.Sizes.{sizes_by}
 use Rattle.rule_store.specs.declared.Mode.{Mode}
 use Rattle.batch_order.specs.declared.Placement.{Placement}
-use Rattle.option_words.specs.Options.{is_traced, mode_in, number_of, placed_by, placement_option, ranges_option, slots_option, text_of, trace_flag}
+use Rattle.option_words.specs.Options.{is_large, is_traced, large_flag, mode_in, placed_by, placement_option, ranges_option, slots_given, slots_option, text_of, trace_flag}
 use Rattle.router_cli.specs.OwnTexts.{router_help}
 
 -- What words ask for: nothing, a text of the product, or a router's script of a version of IP from the source, with so many slots of
--- each device in use, port ranges tested as the mode says, each insertion aiming as the placement says, and with a trace or without.
+-- each device in use, port ranges tested as the mode says, each insertion aiming as the placement says, with a trace or
+-- without, and with the large sizes or the usual ones.
 pub data RouterJob : Type 0 where
   NoJob : RouterJob
   Tells : (text : List ℕ) → RouterJob
-  Routes : (version : IpVersion) (slots : ℕ) (mode : Mode) (placement : Placement) (trace : Bool) → RouterJob
+  Routes : (version : IpVersion) (slots : ℕ) (mode : Mode) (placement : Placement) (trace large : Bool) → RouterJob
 
 -- a subcommand for a router's scripts, by its name, which tells it from tcam's others
 unfoldable pub router_app : Text → App
-router_app name = with_rule (with_rule (with_rule (with_rule (new_app name) slots_option) ranges_option) placement_option) trace_flag
+router_app name = with_rule (with_rule (with_rule (with_rule (with_rule (new_app name) (slots_option most_slots)) ranges_option) placement_option) trace_flag) large_flag
 
 -- tcam with a required subcommand; help is asked for by its flag alone
 unfoldable pub router_top : App
@@ -34,14 +37,16 @@ unfoldable pub router_line : App
 router_line = with_subcommand (with_subcommand router_top (router_app (codes "router")).top) (router_app (codes "router6")).top
 
 -- a router's script of this version over so many slots, where the words of --ranges and --placement name a mode and a placement
-abbrev pub routes_at : IpVersion → ℕ → Option Mode → Option Placement → Bool → RouterJob
-routes_at version slots None placement trace = NoJob
-routes_at version slots (Some mode) None trace = NoJob
-routes_at version slots (Some mode) (Some placement) trace = Routes version slots mode placement trace
+abbrev pub routes_at : IpVersion → Option ℕ → Option Mode → Option Placement → Bool → Bool → RouterJob
+routes_at version None mode placement trace large = NoJob
+routes_at version (Some slots) None placement trace large = NoJob
+routes_at version (Some slots) (Some mode) None trace large = NoJob
+routes_at version (Some slots) (Some mode) (Some placement) trace large = Routes version slots mode placement trace large
 
--- what its arguments ask for
+-- what its arguments ask for: the number of slots is one of the sizes that are wanted
 abbrev pub routes_by : IpVersion → List Row → RouterJob
-routes_by version rows = routes_at version (number_of (codes "slots") rows) (mode_in (text_of (codes "ranges") rows)) (placed_by rows) (is_traced rows)
+routes_by version rows =
+    routes_at version (slots_given (sizes_by (is_large rows)).slots rows) (mode_in (text_of (codes "ranges") rows)) (placed_by rows) (is_traced rows) (is_large rows)
 
 -- what a subcommand and its arguments do
 abbrev pub router_job_of_rows : Text → List Row → RouterJob
@@ -64,6 +69,12 @@ abbrev pub router_job_by_faults : Kinds → Option (Text × List Row) → Router
 router_job_by_faults [] subcommand = router_job_of subcommand
 router_job_by_faults (k ∷ []) subcommand = router_job_of_fault k
 router_job_by_faults (k ∷ l ∷ ks) subcommand = NoJob
+
+-- how many slots of each device a job uses
+abbrev pub wanted_router_slots : RouterJob → ℕ
+wanted_router_slots NoJob = 0
+wanted_router_slots (Tells text) = 0
+wanted_router_slots (Routes version slots mode placement trace large) = slots
 
 -- what words ask for, the program's name first
 abbrev pub router_job : List Text → RouterJob

@@ -16,9 +16,9 @@ use Rattle.router_runs.specs.Promise.{Failures, HasRouterCauses, IsHitlessRouter
 use Rattle.router_cli.specs.CommandLine.{RouterJob, NoJob, Tells, Routes}
 
 -- the setting that words ask for
-abbrev pub router_setting : IpVersion → ℕ → Mode → Placement → Bool → Setting
-router_setting version slots mode placement trace =
-    record { slots = slots; mode = mode; placement = placement; version = version; trace = trace }
+abbrev pub router_setting : IpVersion → ℕ → Mode → Placement → Bool → Bool → Setting
+router_setting version slots mode placement trace large =
+    record { slots = slots; mode = mode; placement = placement; version = version; trace = trace; large = large }
 
 -- no part and no drain was made of either device
 pub record AreBlank (events : MadeOfBoth) : Type 0 where
@@ -37,15 +37,15 @@ IsRouterJobCarriedOut NoJob slots status left_old left_new taken_old taken_new e
     PrintsAlone usage_line Usage status left_old left_new taken_old taken_new events
 IsRouterJobCarriedOut (Tells text) slots status left_old left_new taken_old taken_new events =
     PrintsAlone text Done status left_old left_new taken_old taken_new events
-IsRouterJobCarriedOut (Routes version most mode placement trace) slots status left_old left_new taken_old taken_new events =
-    IsRouterCarriedOut (router_reading version) (router_setting version most mode placement trace) slots status left_old left_new taken_old taken_new events
+IsRouterJobCarriedOut (Routes version most mode placement trace large) slots status left_old left_new taken_old taken_new events =
+    IsRouterCarriedOut (router_reading version) (router_setting version most mode placement trace large) slots status left_old left_new taken_old taken_new events
 
 -- What packets see of each table by itself.
 abbrev pub IsRouterJobHitless : RouterJob → DeviceSlots → Status → Option (List ℕ) → Option (List ℕ) → MadeOfBoth → Type 0
 IsRouterJobHitless NoJob slots status left_old left_new events = AreBlank events
 IsRouterJobHitless (Tells text) slots status left_old left_new events = AreBlank events
-IsRouterJobHitless (Routes version most mode placement trace) slots status left_old left_new events =
-    IsHitlessRouter (router_reading version) (router_setting version most mode placement trace) slots status left_old left_new events
+IsRouterJobHitless (Routes version most mode placement trace large) slots status left_old left_new events =
+    IsHitlessRouter (router_reading version) (router_setting version most mode placement trace large) slots status left_old left_new events
 
 -- how a job that prints one text may end
 abbrev pub EndsTold : Status → Status → Type 0
@@ -55,7 +55,7 @@ EndsTold last status = (status ≡ last) ⊎ ((status ≡ WriteFault) ⊎ (statu
 abbrev pub MayRouterJobEnd : RouterJob → Status → Option (List ℕ) → Type 0
 MayRouterJobEnd NoJob status left = EndsTold Usage status
 MayRouterJobEnd (Tells text) status left = EndsTold Done status
-MayRouterJobEnd (Routes version most mode placement trace) status left = MayRouterEnd (router_reading version) (router_setting version most mode placement trace) status left
+MayRouterJobEnd (Routes version most mode placement trace large) status left = MayRouterEnd (router_reading version) (router_setting version most mode placement trace large) status left
 
 -- the promise over a source that had these bytes before and has those now
 pub record IsRouterJobPromised (job : RouterJob) (slots : DeviceSlots) (status : Status) (left_old left_new taken_old taken_new : Option (List ℕ)) (events : MadeOfBoth) : Type 0 where
@@ -72,8 +72,8 @@ IsRouterJobPromisedByGiven job slots status given_old given_new taken_old taken_
 abbrev pub RouterJobReadsInTime : RouterJob → DeviceSlots → Status → List (List ℕ) → List (List ℕ) → MadeOfBoth → List ℕ → List ℕ → Type 0
 RouterJobReadsInTime NoJob slots status given_old given_new events accepted_old accepted_new = given_new ≡ given_old
 RouterJobReadsInTime (Tells text) slots status given_old given_new events accepted_old accepted_new = given_new ≡ given_old
-RouterJobReadsInTime (Routes version most mode placement trace) slots status given_old given_new events accepted_old accepted_new =
-    RouterReadsInTime (router_reading version) (router_setting version most mode placement trace) slots status given_old given_new events accepted_old accepted_new
+RouterJobReadsInTime (Routes version most mode placement trace large) slots status given_old given_new events accepted_old accepted_new =
+    RouterReadsInTime (router_reading version) (router_setting version most mode placement trace large) slots status given_old given_new events accepted_old accepted_new
 
 -- a job that prints one text: the sink alone may fail
 pub record HasTextCauses (last status : Status) (before after : Failures) : Type 0 where
@@ -87,5 +87,5 @@ pub record HasTextCauses (last status : Status) (before after : Failures) : Type
 abbrev pub HasRouterJobCauses : RouterJob → DeviceSlots → Option (List ℕ) → Status → MadeOfBoth → Failures → Failures → Type 0
 HasRouterJobCauses NoJob slots left status events before after = HasTextCauses Usage status before after
 HasRouterJobCauses (Tells text) slots left status events before after = HasTextCauses Done status before after
-HasRouterJobCauses (Routes version most mode placement trace) slots left status events before after =
-    HasRouterCauses (router_reading version) (router_setting version most mode placement trace) slots left status events before after
+HasRouterJobCauses (Routes version most mode placement trace large) slots left status events before after =
+    HasRouterCauses (router_reading version) (router_setting version most mode placement trace large) slots left status events before after

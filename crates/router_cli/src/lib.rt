@@ -20,6 +20,6 @@ mod command_line;
 mod own_texts;
 mod top;
 
-pub use command_line::{RouterAsked, read_router_words};
+pub use command_line::{RouterAsked, read_router_words, router_slots_wanted};
 pub use script_runs::Status;
 pub use top::run_router;

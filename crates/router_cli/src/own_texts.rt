@@ -5,8 +5,8 @@ pub const ROUTER_HELP: &str = "\
 tcam router: carries out a script of two tables, an access list and routes,
 each over a device of its own, and writes a report; router6 one of IPv6.
 
-    tcam router [--slots N] [--ranges R] [--placement P] [--trace] < FILE
-    tcam router6 [--slots N] [--ranges R] [--placement P] [--trace] < FILE
+    tcam router [--slots N] [--ranges R] [--placement P] [--trace] [--large] < FILE
+    tcam router6 [--slots N] [--ranges R] [--placement P] [--trace] [--large] < FILE
 
 Commands of a script, one a line, with the source's side and ports first:
     acl add SEQ ACTION SIDE SIDE PROTOSPEC PORTSPEC PORTSPEC
@@ -42,6 +42,8 @@ Options, of which tcam --help says more:
     --ranges R       how port ranges are tested: cover, the default, or bits
     --placement P    where a new entry aims: middle, the default, rank or ends
     --trace          a line for each device write and drain
+    --large          up to 1048576 slots, as many changes of a table a commit,
+                     and 256 MiB of script
 
 Example of a script, whose packet gets the answers 10 permit and 10.0.0.0/8 7:
     acl add 10 permit any 10.0.0.0/8 tcp any 443

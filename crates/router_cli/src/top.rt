@@ -7,7 +7,7 @@ ghost use Rattle.router.specs.Routing.{slots_of};
 ghost use Rattle.router.specs.Taken.{made_on};
 ghost use Rattle.router_runs.specs.Promise.{failures_of};
 ghost use Rattle.router_runs.specs.Rounds.{ClosesRouterReport};
-ghost use Rattle.router_cli.specs.CommandLine.{router_job};
+ghost use Rattle.router_cli.specs.CommandLine.{router_job, wanted_router_slots};
 ghost use Rattle.router_cli.specs.Promise.{HasRouterJobCauses, IsRouterJobHitless, IsRouterJobCarriedOut, IsRouterJobPromisedByGiven, RouterJobReadsInTime};
 
 use crate::command_line::{RouterAsked, read_router_words};
@@ -18,13 +18,12 @@ use router::Router;
 use router_runs::run_router_script;
 use script_lines::{Failed, Sink, Source};
 use script_runs::Status;
-use slot_order::SCRIPT_SLOTS;
 use split_device::SplitDevice;
 use std::alloc::Global;
 
 /// Runs what the words of a command line ask for, the program's name first, over two blank devices, the list's and the
-/// routes', each of at least 4,096 slots with nothing in flight: a router's script from the source, or the product's own
-/// text on it.
+/// routes', each of at least as many slots as they ask for (`router_slots_wanted`) with nothing in flight: a router's script
+/// from the source, or the product's own text on it.
 ///
 /// Between any two parts or drains of a device an undivided look-up of every key gets the answer of one of its table's sets
 /// or of the next one, in order. A set changes only by a commit that neither table refuses; a refused commit writes nothing
@@ -47,7 +46,8 @@ pub fn run_router<S: Source, K: Sink, D: SplitDevice>(
     list: &mut D,
     routes: &mut D,
 ) -> Status
-    requires slots { (SCRIPT_SLOTS ≤ D.slot_count list.old) × (SCRIPT_SLOTS ≤ D.slot_count routes.old) }
+    requires list_slots { wanted_router_slots (router_job (map (λ w. string_bytes w) words.now)) ≤ D.slot_count list.old }
+    requires route_slots { wanted_router_slots (router_job (map (λ w. string_bytes w) words.now)) ≤ D.slot_count routes.old }
     requires blank { (D.events list.old ≡ []) × (D.events routes.old ≡ []) }
     requires none_in_flight { (D.flight list.old ≡ no_flight) × (D.flight routes.old ≡ no_flight) }
     ensures carried_out { IsRouterJobCarriedOut (router_job (map (λ w. string_bytes w) words.now)) (slots_of (D.slot_count list.old) (D.slot_count routes.old)) result
@@ -72,9 +72,13 @@ pub fn run_router<S: Source, K: Sink, D: SplitDevice>(
                 mode,
                 placement,
                 trace,
+                large,
             },
         ) => match Router::new(alloc, slots, mode, placement, version, trace) {
-            Ok(mut router) => run_router_script(&mut router, source, sink, list, routes),
+            Ok(router) => {
+                let mut router = router.with_large(large);
+                run_router_script(&mut router, source, sink, list, routes)
+            }
             Err(_) => Status::Memory,
         },
         Ok(RouterAsked::Help) => tell(sink, ROUTER_HELP, Status::Done),

@@ -22,6 +22,7 @@ use Rattle.router.specs.Script.{Pending, limit_fault}
 use Rattle.router.specs.Run.{DeviceSlots, Effect, Progress, Setting, TakesMemory}
 use Rattle.router.specs.Acting.{Carries, CutsAtLine, CutsAtPart, Does, Outside}
 use Rattle.router.specs.Taken.{MadeOfBoth, made_on}
+use Rattle.report_lines.specs.Sizes.{sizes_by}
 use Rattle.router_runs.specs.Scripts.{router_scripts}
 use Rattle.router_runs.specs.Runs.{made_then, pending_at, router_kind}
 use Rattle.router_runs.specs.Promise.{IsPartDue}
@@ -57,7 +58,7 @@ ends-same reading setting slots bytes taken now status before after start end sa
 module _ (reading : Reading RouterAct) (setting : Setting) (slots : DeviceSlots) (bytes : List ℕ) (old : HeldBytes) (left : List ℕ) (last : Progress) (before after : Outside) (start : Option (List ℕ))
     (s : SoFar (router_kind reading setting slots) bytes old left last (made_in before) start before.taken)
     (line : Line) (new : HeldBytes) (now : List ℕ) (again : Again old.over (Ok (Some line))) (hands : old.over ≡ over.Going → HandsOne old left (numbered line) new now)
-    (act : RouterAct) (is : reading (numbered line).text ≡ Ok (Some act)) (room : limit_fault act (pending_at last) ≡ None) where
+    (act : RouterAct) (is : reading (numbered line).text ≡ Ok (Some act)) (room : limit_fault (sizes_by setting.large).commands act (pending_at last) ≡ None) where
   abbrev kind : RunKind RouterAct Pending Progress Effect (Side × SplitWrite) MadeOfBoth
   kind = router_kind reading setting slots
 
@@ -75,7 +76,7 @@ module _ (reading : Reading RouterAct) (setting : Setting) (slots : DeviceSlots)
   exit-line taken cuts =
       exits.exit-stopped kind joins bytes old left last (made_in before) start before.taken s line new now again hands act is room (made_in after) after.taken taken WriteFault
       (λ later acts.
-      line-outcome kind joins (script_of (router_scripts reading) bytes) (script_so_far (router_scripts reading) taken) (acts_only s.acts) s.effects last (made_in before) start before.taken s.run s.events_is s.report
+      line-outcome kind joins (script_of (router_scripts (sizes_by setting.large) reading) bytes) (script_so_far (router_scripts (sizes_by setting.large) reading) taken) (acts_only s.acts) s.effects last (made_in before) start before.taken s.run s.events_is s.report
       act later acts (made_in after) after.taken cuts.front cuts.partial (as-kind cuts.front cuts.partial cuts.does) cuts.rest cuts.cut)
       (λ e. elim e [ inl d ↦ absurd (cc) | inr r ↦ absurd (cc) ])
 
@@ -84,7 +85,7 @@ module _ (reading : Reading RouterAct) (setting : Setting) (slots : DeviceSlots)
   exit-part taken which parts cuts =
       exits.exit-stopped kind joins bytes old left last (made_in before) start before.taken s line new now again hands act is room (made_in after) after.taken taken DeviceFault
       (λ later acts.
-      write-outcome kind joins (script_of (router_scripts reading) bytes) (script_so_far (router_scripts reading) taken) (acts_only s.acts) s.effects last (made_in before) start before.taken s.run s.events_is s.report
+      write-outcome kind joins (script_of (router_scripts (sizes_by setting.large) reading) bytes) (script_so_far (router_scripts (sizes_by setting.large) reading) taken) (acts_only s.acts) s.effects last (made_in before) start before.taken s.run s.events_is s.report
       act later acts (made_in after) after.taken cuts.front [] (as-kind cuts.front [] cuts.does) (which, cuts.part) refl cuts.cut)
       (λ e. elim e [ inl d ↦ absurd (cc) | inr r ↦ absurd (cc) ])
 
@@ -103,7 +104,7 @@ module _ (reading : Reading RouterAct) (setting : Setting) (slots : DeviceSlots)
   exit-memory taken needs same =
       exits.exit-stopped kind joins bytes old left last (made_in before) start before.taken s line new now again hands act is room (made_in after) after.taken taken Memory
       (λ later acts.
-      memory-outcome kind joins (script_of (router_scripts reading) bytes) (script_so_far (router_scripts reading) taken) (acts_only s.acts) s.effects last (made_in before) start before.taken s.run s.events_is s.report
+      memory-outcome kind joins (script_of (router_scripts (sizes_by setting.large) reading) bytes) (script_so_far (router_scripts (sizes_by setting.large) reading) taken) (acts_only s.acts) s.effects last (made_in before) start before.taken s.run s.events_is s.report
       act later acts (made_in after) after.taken [] [] (as-kind [] [] (does-nothing before after same)) refl (needs, refl))
       (λ e. elim e [ inl d ↦ absurd (cc) | inr r ↦ absurd (cc) ])
 

@@ -16,6 +16,7 @@ use Rattle.router.specs.declared.RouterAct.{RouterAct}
 use Rattle.router.specs.Script.{Pending}
 use Rattle.router.specs.Run.{DeviceSlots, Effect, HasEffects, Prints, Progress, Setting, start}
 use Rattle.router.specs.Taken.{MadeOfBoth}
+use Rattle.report_lines.specs.Sizes.{sizes_by}
 use Rattle.router_runs.specs.Scripts.{router_scripts}
 use Rattle.router_runs.specs.Runs.{router_kind}
 use Rattle.router_runs.specs.RuleLists.{no_rules, table_sets, table_sets_through}
@@ -190,10 +191,10 @@ hitless-run reading setting slots status None left_new taken_old taken_new event
 hitless-run reading setting slots status (Some old) None taken_old taken_new events is = tt
 hitless-run reading setting slots status (Some old) (Some new) taken_old taken_new events is =
     let n = length old - length new in
-    let script : Script RouterAct = script_of (router_scripts reading) old in
-    let came : Script RouterAct = script_so_far (router_scripts reading) (take n old) in
+    let script : Script RouterAct = script_of (router_scripts (sizes_by setting.large) reading) old in
+    let came : Script RouterAct = script_so_far (router_scripts (sizes_by setting.large) reading) (take n old) in
     let first : came.last ≡ Whole → AreFirstActs (acts_of came) (acts_of script) =
-    λ sound. subst (λ bytes. AreFirstActs (acts_of came) (acts_of (script_of (router_scripts reading) bytes))) (take-append-drop n old) (first-acts (router_scripts reading) (take n old) (drop n old) sound) in
+    λ sound. subst (λ bytes. AreFirstActs (acts_of came) (acts_of (script_of (router_scripts (sizes_by setting.large) reading) bytes))) (take-append-drop n old) (first-acts (router_scripts (sizes_by setting.large) reading) (take n old) (drop n old) sound) in
     let shows = outcome-answers reading setting slots script came status is.1.effects is.1.partial first is.1.outcome in (
       shows.0,
       λ which. subst (λ (all : MadeOfBoth). IsHitlessTable shows.0 which setting (slots_on which slots) script came status (events_on which all)) (sym is.1.events_is) (shows.1 which),

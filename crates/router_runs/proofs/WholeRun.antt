@@ -14,6 +14,7 @@ use Rattle.router.specs.declared.RouterAct.{RouterAct}
 use Rattle.router.specs.Script.{Pending}
 use Rattle.router.specs.Run.{DeviceSlots, Effect, Progress, Setting}
 use Rattle.router.specs.Taken.{MadeOfBoth}
+use Rattle.report_lines.specs.Sizes.{sizes_by}
 use Rattle.router_runs.specs.Scripts.{router_scripts}
 use Rattle.router_runs.specs.Runs.{router_kind}
 use Rattle.router_runs.specs.RuleLists.{status_of_lists}
@@ -32,7 +33,7 @@ module _ (reading : Reading RouterAct) (setting : Setting) (slots : DeviceSlots)
 
   decided-by : (left_old left_new : Option (List ℕ)) (events : MadeOfBoth) (taken_old taken_new : Option (List ℕ)) → TakesSome left_old left_new
       → EndsTold (router_kind reading setting slots) status left_old left_new events taken_old taken_new
-      → ((left taken now : List ℕ) → EndsRun (router_kind reading setting slots) left taken now status events taken_old taken_new → status_of_lists setting (script_of (router_scripts reading) left) ≡ status)
+      → ((left taken now : List ℕ) → EndsRun (router_kind reading setting slots) left taken now status events taken_old taken_new → status_of_lists setting (script_of (router_scripts (sizes_by setting.large) reading) left) ≡ status)
       → IsRouterDecided reading setting status left_old
   decided-by None left_new events taken_old taken_new takes ends so = tt
   decided-by (Some old) None events taken_old taken_new takes ends so = absurd takes.1

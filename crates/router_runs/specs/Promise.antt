@@ -17,6 +17,7 @@ use Rattle.router.specs.declared.RouterAct.{RouterAct}
 use Rattle.router.specs.Run.{DeviceSlots, Effect, Progress, Setting}
 use Rattle.router.specs.Script.{Pending}
 use Rattle.router.specs.Taken.{MadeOfBoth}
+use Rattle.report_lines.specs.Sizes.{sizes_by}
 use Rattle.router_runs.specs.Scripts.{router_scripts}
 use Rattle.router_runs.specs.Runs.{router_kind}
 use Rattle.router_runs.specs.RuleLists.{status_of_lists}
@@ -37,20 +38,20 @@ abbrev pub IsRouterCarriedOut : Reading RouterAct → Setting → DeviceSlots �
 IsRouterCarriedOut reading setting slots status left_old left_new taken_old taken_new events =
     IfSome left_old (λ old. IfSome left_new (λ new.
     TakesFrom status old new
-    × MatchesOutcome (router_kind reading setting slots) (script_of (router_scripts reading) old)
-    (script_so_far (router_scripts reading) (take (length old - length new) old)) status events taken_old taken_new))
+    × MatchesOutcome (router_kind reading setting slots) (script_of (router_scripts (sizes_by setting.large) reading) old)
+    (script_so_far (router_scripts (sizes_by setting.large) reading) (take (length old - length new) old)) status events taken_old taken_new))
 
 -- What packets see of each table by itself, on devices that were blank, and at which of them the run is cut, if it is.
 abbrev pub IsHitlessRouter : Reading RouterAct → Setting → DeviceSlots → Status → Option (List ℕ) → Option (List ℕ) → MadeOfBoth → Type 0
 IsHitlessRouter reading setting slots status left_old left_new events =
     IfSome left_old (λ old. IfSome left_new (λ new.
-    (cut : Side) × ((which : Side) → IsHitlessTable cut which setting (slots_on which slots) (script_of (router_scripts reading) old)
-    (script_so_far (router_scripts reading) (take (length old - length new) old)) status (events_on which events))))
+    (cut : Side) × ((which : Side) → IsHitlessTable cut which setting (slots_on which slots) (script_of (router_scripts (sizes_by setting.large) reading) old)
+    (script_so_far (router_scripts (sizes_by setting.large) reading) (take (length old - length new) old)) status (events_on which events))))
 
 -- the rule lists alone decide this status, where the script is told
 abbrev pub IsRouterDecided : Reading RouterAct → Setting → Status → Option (List ℕ) → Type 0
 IsRouterDecided reading setting status left =
-    IfSome (option_map (λ bytes. status_of_lists setting (script_of (router_scripts reading) bytes)) left) (λ is. is ≡ status)
+    IfSome (option_map (λ bytes. status_of_lists setting (script_of (router_scripts (sizes_by setting.large) reading) bytes)) left) (λ is. is ≡ status)
 
 -- how a run may end: by a fault of what it uses, for want of memory, or as its script decides
 abbrev pub MayRouterEnd : Reading RouterAct → Setting → Status → Option (List ℕ) → Type 0

@@ -33,7 +33,7 @@ pub record IsRouterBetweenLines (held : HeldBytes) (router : Routing) : Type 0 w
   pub idle : IsIdle router
   pub whole : router.broken ≡ false
   pub commits : router.commits ≤ held.before
-  pub within : held.before ≤ 16777216
+  pub within : held.before ≤ 268435456
 
 -- What a call leaves of both devices, by whether each failed.
 pub record LeavesBoth {D : Type 0} (slots : D → ℕ) (events : D → List SplitAction) (flight : D → Flight) (faults : D → ℕ) (list_old list_new routes_old routes_new : D) (Failed : Side → Type 0) : Type 0 where

@@ -4,6 +4,7 @@ use Rattle.script_runs.specs.Script.{Reading, ScriptEnd, Whole, FaultAt}
 use Rattle.script_runs.specs.Outcomes.{RunKind}
 use Rattle.split_device.specs.declared.SplitWrite.{SplitWrite}
 use Rattle.split_device.specs.declared.SplitAction.TheVariants.{Written}
+use Rattle.report_lines.specs.Sizes.{sizes_by}
 use Rattle.report_lines.specs.Text.{fault_line}
 use Rattle.router.specs.declared.Side.{Side}
 use Rattle.router.specs.declared.RouterAct.{RouterAct}
@@ -33,7 +34,7 @@ router_closing_line progress (FaultAt line text) = fault_line line text
 abbrev pub router_kind : Reading RouterAct → Setting → DeviceSlots → RunKind RouterAct Pending Progress Effect (Side × SplitWrite) MadeOfBoth
 router_kind reading setting slots =
     record {
-      scripts = router_scripts reading;
+      scripts = router_scripts (sizes_by setting.large) reading;
       counted = pending_at;
       start = start;
       Step = HasEffects setting slots;

@@ -18,7 +18,7 @@ ghost use Rattle.router_runs.specs.Runs.{router_kind};
 ghost use Rattle.router_runs.specs.Promise.{failures_of, HasRouterCauses, IsHitlessRouter, IsRouterCarriedOut, IsRouterPromisedByGiven, RouterReadsInTime};
 ghost use Rattle.router_runs.specs.Rounds.{ClosesRouterReport, IsRouterBetweenLines, LeavesBoth, StopsAtPart};
 
-use report_lines::write_fault;
+use report_lines::{sizes_by, write_fault};
 use router::{Router, RouterFault};
 use router_reader::read_router_act;
 use script_lines::{Failed, LineFault, Lines, Sink, Source};
@@ -69,7 +69,7 @@ pub fn run_router_script<S: Source, K: Sink, D: SplitDevice>(
         (failures_of (S.faults source.old) (K.faults sink.old) (D.faults list.old) (D.faults routes.old))
         (failures_of (S.faults source.new) (K.faults sink.new) (D.faults list.new) (D.faults routes.new)) }
 {
-    let mut lines = Lines::new();
+    let mut lines = Lines::of_at_most(sizes_by(router.is_large()).bytes);
     'acts: loop {
         match round(&mut lines, router, source, sink, list, routes) {
             Some(status) => return status,

@@ -51,8 +51,8 @@ named_fault rules one = fault_by one.naming (is_addition one.command) (named_pri
 abbrev pub commands_of : List Named → List Command
 commands_of named = map (λ one. one.command) named
 
--- There are 12,288 commands at most, each a right one and kept with how it names its priority, and the map has the use of
--- each priority.
+-- There are as many commands as a batch has room for at most, each a right one and kept with how it names its priority, and
+-- the map has the use of each priority.
 pub record IsIndexed (named : List Named) (uses : BTreeMap ℕ Uses) : Type 0 where
   pub count : length named ≤ most_commands
   pub right : AllByRecursion ChangesRules (commands_of named)

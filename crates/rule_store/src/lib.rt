@@ -35,7 +35,7 @@ mod table;
 
 pub use entries::{entries_needed, same_conditions};
 pub use laws::{has_added_and_kept_rules, is_a_set_afterward};
-pub use pending::{BATCH_COMMANDS, Batch, Commands, PENDING_COMMANDS, PushFault};
+pub use pending::{BATCH_COMMANDS, Batch, Commands, LimitedBatch, PENDING_COMMANDS, PushFault};
 pub use stored::Store;
 
 /// How port ranges are encoded in entries.

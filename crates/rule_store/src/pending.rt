@@ -17,7 +17,7 @@ use thiserror::Error;
 pub const PENDING_COMMANDS: u32 = 4096;
 
 /// The most commands of a batch (`most_commands` in definitions).
-pub const BATCH_COMMANDS: u32 = MOST_SLOTS + 2 * PENDING_COMMANDS;
+pub const BATCH_COMMANDS: u32 = 3 * MOST_SLOTS;
 
 /// Why a batch doesn't take a command.
 #[derive(Clone, Copy, Debug, PartialEq, Eq, Error)]
@@ -57,7 +57,8 @@ pub(crate) struct Named {
     pub(crate) naming: Naming,
 }
 
-/// Commands in the order in which they came: 4,096 that wait for a commit, or `BATCH_COMMANDS` to which changes were settled.
+/// Commands in the order in which they came: 4,096 that wait for a commit, as many as the caller says, or `BATCH_COMMANDS` to
+/// which changes were settled.
 #[derive(Drop)]
 pub struct Batch {
     commands: Vec<Named>,
@@ -75,6 +76,24 @@ impl Model for Batch {
     ghost view = { λ b. commands_of b.commands.items };
 
     ghost invariant = { λ b. IsIndexed b.commands.items b.uses };
+}
+
+/// A batch with a limit of its own, beyond which it takes no command. Contracts see its commands and the limit.
+#[derive(Drop)]
+pub struct LimitedBatch {
+    batch: Batch,
+    most: u32,
+}
+
+impl Model for LimitedBatch {
+    ghost use Rattle.std.specs.Prelude.{◌≤◌};
+    ghost use Rattle.rule_store.specs.Batch.{Limited, most_commands};
+
+    ghost Value = { Limited };
+
+    ghost view = { λ l. record { commands = l.batch; most = l.most } };
+
+    ghost invariant = { λ l. l.most ≤ most_commands };
 }
 
 /// The commands of a batch as they are kept for the end of its commit: without what only a further push asks for.
@@ -159,6 +178,18 @@ impl Batch {
         }
     }
 
+    /// A batch without commands, of so many at most, `BATCH_COMMANDS` or fewer: it refuses more by itself. It takes no memory
+    /// yet.
+    pub fn of_at_most(alloc: Global, most: u32) -> LimitedBatch
+        requires { most ≤ BATCH_COMMANDS }
+        ensures { result ≡ record { commands = []; most = most } }
+    {
+        LimitedBatch {
+            batch: Batch::new(alloc),
+            most,
+        }
+    }
+
     /// Puts a command behind the others, of those that wait for a commit. `Full` comes exactly from 4,096 commands on; after
     /// a refusal the batch is as before.
     pub fn push(&mut self, command: Command) -> Result<(), PushFault>
@@ -166,7 +197,18 @@ impl Batch {
         ensures full { (result ≡ Err PushFault.Full) ↔ (PENDING_COMMANDS ≤ length self.old) }
         ensures same { OnErr result (self.new ≡ self.old) }
     {
-        if self.commands.len() >= PENDING_COMMANDS as usize {
+        self.push_within(command, PENDING_COMMANDS)
+    }
+
+    /// Puts a command behind the others, where so many wait at most, `BATCH_COMMANDS` or fewer. `Full` comes exactly from so
+    /// many on; after a refusal the batch is as before.
+    pub fn push_within(&mut self, command: Command, most: u32) -> Result<(), PushFault>
+        requires { most ≤ BATCH_COMMANDS }
+        ensures pushed { OnOk result (self.new ≡ self.old ++ command ∷ []) }
+        ensures full { (result ≡ Err PushFault.Full) ↔ (most ≤ length self.old) }
+        ensures same { OnErr result (self.new ≡ self.old) }
+    {
+        if self.commands.len() >= most as usize {
             return Err(PushFault::Full);
         }
         self.push_settled(command)
@@ -254,5 +296,38 @@ impl Batch {
         ensures naming { result.naming ≡ naming_after (take i self.now) result.command }
     {
         self.commands[i as usize]
+    }
+}
+
+impl LimitedBatch {
+    /// Puts a command behind the others. `Full` comes exactly from as many commands on as the limit says; after a refusal all
+    /// is as before.
+    pub fn push(&mut self, command: Command) -> Result<(), PushFault>
+        ensures pushed { OnOk result (self.new ≡ record self.old { commands = self.old.commands ++ command ∷ [] }) }
+        ensures full { (result ≡ Err PushFault.Full) ↔ (self.old.most ≤ length self.old.commands) }
+        ensures same { OnErr result (self.new ≡ self.old) }
+    {
+        self.batch.push_within(command, self.most)
+    }
+
+    /// The batch, as a manager takes it.
+    pub fn batch(&self) -> &Batch
+        ensures { result.now ≡ self.now.commands }
+    {
+        &self.batch
+    }
+
+    /// How many commands it takes at most.
+    pub fn most(&self) -> u32
+        ensures { result ≡ self.now.most }
+    {
+        self.most
+    }
+
+    /// Takes every command out. The limit stays, and so does the memory of the list.
+    pub fn clear(&mut self)
+        ensures { self.new ≡ record self.old { commands = [] } }
+    {
+        self.batch.clear();
     }
 }

@@ -55,7 +55,7 @@ lines-open bounds before number line (byte ∷ text) rest plain fits within =
     ∙ ap (λ l. lines_from bounds (before + length (byte ∷ text)) number l rest) (append_assoc line (byte ∷ []) text)
 
 -- a line and its line feed
-pub lines-whole : (before number : ℕ) (text rest : List ℕ) → IsOpenLine before text → before + length text < 16777216
+pub lines-whole : (before number : ℕ) (text rest : List ℕ) → IsOpenLine before text → before + length text < 268435456
     → lines_from limits before number [] (text ++ 10 ∷ rest)
     ≡ onto_lines (record { number = number; text = text }) (lines_from limits (before + length text + 1) (number + 1) [] rest)
 lines-whole before number text rest is room =

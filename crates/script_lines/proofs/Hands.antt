@@ -93,7 +93,7 @@ hands-whole-at old new left after buffer n line is (rest, stands, room) past =
       bytes = gathered old left after buffer n is ∙ ap (λ r. front ++ (r ++ after)) stands
           ∙ ap (λ r. front ++ 10 ∷ (r ++ after)) next ∙ ap (λ t. t ++ 10 ∷ (new.pending ++ after)) (sym past.text);
       one_line = subst (λ t. IsOpenLine old.before t) (sym past.text) is.scan.one_line;
-      room = subst (λ t. old.before + length t < 16777216) (sym past.text) room;
+      room = subst (λ t. old.before + length t < 268435456) (sym past.text) room;
       number = past.number;
       before_new = omega arith;
       number_new = past.number_new;

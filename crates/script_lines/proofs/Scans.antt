@@ -34,7 +34,7 @@ scan-within held scanned most le =
     omega arith
 
 -- a scan goes on to the first byte that is no part of a line, within the limits
-pub scan-front : (held : List ℕ) (scanned most before : ℕ) → IsScanned held scanned before → scanned ≤ most → most ≤ length held → most ≤ 512 → before + most ≤ 16777216
+pub scan-front : (held : List ℕ) (scanned most before : ℕ) → IsScanned held scanned before → scanned ≤ most → most ≤ length held → most ≤ 512 → before + most ≤ 268435456
     → IsScanned held (scanned + prefix_len (λ byte. is_of_line byte) (take (most - scanned) (drop scanned held))) before
 scan-front held scanned most before is le there short within =
     let rest = take (most - scanned) (drop scanned held) in

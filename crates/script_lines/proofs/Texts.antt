@@ -4,7 +4,7 @@ use Rattle.std.proofs.lemmas.Bool.{cond-false}
 use Rattle.std.proofs.lemmas.Bool.Decides.{nat_tests}
 use Rattle.script_lines.specs.declared.LineFault.{LineFault}
 use Rattle.script_lines.specs.declared.LineFault.TheVariants.{Read, ScriptTooLong, TooLong, BadByte}
-use Rattle.script_lines.specs.Lines.{Limits, limits, NumberedLine, ScriptLines, EndOfInput, Faulty, line_feed, is_allowed, byte_fault, ends_at, onto_lines, lines_from, text_lines_from, lines_of}
+use Rattle.script_lines.specs.Lines.{Limits, limits, most_bytes, NumberedLine, ScriptLines, EndOfInput, Faulty, line_feed, is_allowed, byte_fault, ends_at, onto_lines, lines_from, text_lines_from, lines_of}
 use Rattle.script_lines.specs.Reader.{IsOpenLine}
 use Rattle.script_lines.proofs.FirstLines.{picks, no_fault-feed, lines-open, lines-feed, last_line-last, last_line-some}
 
@@ -82,14 +82,14 @@ fault-from : (size before m n : ℕ) (line bytes : List ℕ) (fault : LineFault)
 fault-from size before m n line [] fault short room same =
     let bad : EndOfInput ≡ Faulty fault = sym (last_line-last m line) ∙ ap (λ (l : ScriptLines). l.last) same in absurd (cc)
 fault-from size before m n line (byte ∷ bytes) fault short room same =
-    let inside : length line < 16777216 = omega arith in
+    let inside : length line < 268435456 = omega arith in
     let here : before < size = omega arith in
     let one : ScriptLines = onto_lines (record { number = m; text = line }) (lines_from limits (length line + 1) (m + 1) [] bytes) in
     let two : ScriptLines = onto_lines (record { number = n; text = line }) (lines_from (bounds size) (before + 1) (n + 1) [] bytes) in
     let first : ScriptLines = lines_from limits (length line + 1) m (line ++ byte ∷ []) bytes in
     let second : ScriptLines = lines_from (bounds size) (before + 1) n (line ++ byte ∷ []) bytes in
     let read : picks (line_fault m (length line) byte) (byte == line_feed) one first ≡ ends_at (Faulty fault) =
-    ap (λ f. picks f (byte == line_feed) one first) (sym (fault-within 16777216 (length line) m (length line) byte inside)) ∙ same in
+    ap (λ f. picks f (byte == line_feed) one first) (sym (fault-within 268435456 (length line) m (length line) byte inside)) ∙ same in
     let step = fault-step (nat_le 512 (length line) && not (byte == line_feed)) (not (is_allowed byte)) (byte == line_feed) m n
     (record { number = m; text = line }) (record { number = n; text = line }) (lines_from limits (length line + 1) (m + 1) [] bytes) (lines_from (bounds size) (before + 1) (n + 1) [] bytes) first second fault
     (λ long other later.
@@ -103,7 +103,7 @@ fault-from size before m n line (byte ∷ bytes) fault short room same =
 
 -- Where the first line of a script is at fault, the same line of a text is, by its own number; and it is no fault of the
 -- whole text.
-pub text-fault : (size before number : ℕ) (bytes : List ℕ) (fault : LineFault) → before + length bytes ≤ size → lines_of bytes ≡ ends_at (Faulty fault)
+pub text-fault : (size before number : ℕ) (bytes : List ℕ) (fault : LineFault) → before + length bytes ≤ size → lines_of most_bytes bytes ≡ ends_at (Faulty fault)
     → (text_lines_from size before number bytes ≡ ends_at (Faulty (at_line number fault))) × IsOfLine fault
 text-fault size before number bytes fault room same =
     let none : length {A = ℕ} [] ≤ 512 = omega arith in

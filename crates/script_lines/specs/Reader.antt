@@ -25,7 +25,7 @@ is_of_line byte = is_allowed byte && not (byte == line_feed)
 pub record IsOpenLine (before : ℕ) (text : List ℕ) : Type 0 where
   pub plain : AllByRecursion (λ byte. IsTrue (is_of_line byte)) text
   pub fits : length text ≤ 512
-  pub within : before + length text ≤ 16777216
+  pub within : before + length text ≤ 268435456
 
 -- the lines of what is pending and what is left
 abbrev pub lines_held : HeldBytes → List ℕ → ScriptLines
@@ -35,7 +35,7 @@ lines_held held left = lines_from limits held.before held.number [] (held.pendin
 pub record HandsWhole (old : HeldBytes) (left : List ℕ) (line : NumberedLine) (new : HeldBytes) (after : List ℕ) : Type 0 where
   pub bytes : old.pending ++ left ≡ line.text ++ 10 ∷ (new.pending ++ after)
   pub one_line : IsOpenLine old.before line.text
-  pub room : old.before + length line.text < 16777216
+  pub room : old.before + length line.text < 268435456
   pub number : line.number ≡ old.number
   pub before_new : new.before ≡ old.before + length line.text + 1
   pub number_new : new.number ≡ old.number + 1

@@ -12,7 +12,7 @@ use Rattle.script_lines.specs.declared.scan.Found.TheVariants as found
 
 -- by how many bytes stand before the line, its number, the part of it that is scanned, and the bytes after that
 abbrev pub StopsAt : Found → ℕ → ℕ → List ℕ → List ℕ → Type 0
-StopsAt found.LineFeed before number line rest = (after : List ℕ) × (rest ≡ 10 ∷ after) × (before + length line < 16777216)
+StopsAt found.LineFeed before number line rest = (after : List ℕ) × (rest ≡ 10 ∷ after) × (before + length line < 268435456)
 StopsAt found.Open before number line rest = rest ≡ []
 StopsAt (found.Fault why) before number line rest =
     (byte : ℕ) × (after : List ℕ) × (rest ≡ byte ∷ after) × (byte_fault limits (before + length line) number (length line) byte ≡ Some why)

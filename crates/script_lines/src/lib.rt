@@ -17,6 +17,10 @@
 //! # Decided
 //! - **A last line without a line feed ends the reading**: nothing is read after it, so no later read can fail behind
 //!   its act.
+//! - **Bytes are counted up to the greatest limit, `MOST_BYTES`, whatever the script's own is.** Of a smaller script so many
+//!   are counted before its first that as many are left as it may have (`Lines::of_at_most`, `lines_of`). So all that is said
+//!   of what a reader holds knows one number, and none of it names the limit of a script; that this is the script's own limit
+//!   is a law by itself ([`bytes_are_the_scripts`]).
 //! - **A line's bytes are counted also where the source tells nothing** (`Lines::next`, `counts`). A line takes at
 //!   least one, so a script has no more commits than bytes, and fewer than a run counts.
 #![tactic(auto)]
@@ -25,6 +29,7 @@ mod adapters;
 mod buffer;
 mod counts;
 mod fake;
+mod laws;
 mod memory;
 mod reader;
 mod scan;
@@ -33,6 +38,7 @@ mod source;
 
 pub use adapters::{ReadFrom, WriteTo};
 pub use fake::{FailSink, FailSource};
+pub use laws::bytes_are_the_scripts;
 pub use memory::{MemSink, MemSource};
 pub use reader::Lines;
 pub use sink::{Sink, write_all};
@@ -42,8 +48,11 @@ use thiserror::Error;
 /// The bytes of a line that is not too long, without its line feed.
 pub const LINE_BYTES: usize = 512;
 
-/// The bytes of a script that is not too long.
+/// The bytes of a script that is not too long, where nothing else is asked for (`usual_bytes` in definitions).
 pub const SCRIPT_BYTES: u32 = 16_777_216;
+
+/// The most bytes of any script (`most_bytes` in definitions).
+pub const MOST_BYTES: u32 = 268_435_456;
 
 /// A line of a script: its number, from 1, and its bytes without the line feed, which are the first
 /// `len` of `bytes`. The others are 0.
@@ -60,7 +69,7 @@ pub enum LineFault {
     /// The source failed. What was read before is kept, and a later call goes on with it.
     #[error("read failed")]
     Read,
-    /// There is a byte after the first 16,777,216 of the script.
+    /// There is a byte after the last that the script may have.
     #[error("script too long")]
     ScriptTooLong { line: u32 },
     /// A line has a byte after its first 512, and it is no line feed.

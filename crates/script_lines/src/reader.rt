@@ -3,7 +3,7 @@ ghost use Rattle.std.specs.Prelude.{◌≡◌, ◌≤◌, ◌-◌, length, take,
 
 use crate::buffer::Buffer;
 use crate::scan::{Found, gather};
-use crate::{Failed, LINE_BYTES, Line, LineFault, Over, Source};
+use crate::{Failed, LINE_BYTES, Line, LineFault, MOST_BYTES, Over, Source};
 use std::marker::Model;
 
 /// Cuts what a source gives into lines. It holds the bytes that are read and not handed out.
@@ -31,23 +31,33 @@ impl Lines {
     ghost use Rattle.std.specs.Prelude.{◌≡◌, ◌≢◌, ◌<◌, ◌≤◌, ◌+◌, ◌-◌, ℕ, List, [], Some, Err, IfOk, IfSome, drop, replicate};
     ghost use Rattle.std.specs.Io.KnownBytes.{Consumes};
     ghost use Rattle.call_history.specs.Cause.{IsCounted};
+    ghost use Rattle.script_lines.specs.Lines.{most_bytes};
     ghost use Rattle.script_lines.specs.Reader.{Hands, Follows, HandsByGiven, Again, MayRead, Stays};
     ghost use Rattle.script_lines.specs.Given.{GivesPieces};
 
-    /// Nothing is held, and the script begins. Takes no memory.
+    /// Nothing is held, and a script of `MOST_BYTES` at most begins. Takes no memory.
     pub fn new() -> Lines
         ensures { result ≡ record { pending = []; before = 0; number = 1; over = Over.Going } }
+    {
+        Lines::of_at_most(MOST_BYTES)
+    }
+
+    /// Nothing is held, and a script begins that may have so many bytes, at most `MOST_BYTES`: the others are counted as if
+    /// they stood before it. Takes no memory.
+    pub fn of_at_most(bytes: u32) -> Lines
+        requires { bytes ≤ MOST_BYTES }
+        ensures { result ≡ record { pending = []; before = most_bytes - bytes; number = 1; over = Over.Going } }
     {
         Lines {
             buffer: Buffer::new(),
             scanned: 0,
-            before: 0,
+            before: MOST_BYTES - bytes,
             number: 1,
             over: Over::Going,
         }
     }
 
-    /// What is held, and what comes, is taken for the beginning of a script: no byte stands before it, and its first
+    /// What is held, and what comes, is taken for the beginning of a longest script: no byte stands before it, and its first
     /// line has the number 1. So who begins anew behind each line, and counts them, reads a text of any length. Once it
     /// is over it stays so.
     pub fn begin_anew(&mut self)
@@ -74,7 +84,7 @@ impl Lines {
         ensures stays { Stays result self.new.over }
         ensures len { IfOk result (λ found. IfSome found (λ line. line.len ≤ 512)) }
         ensures padded { IfOk result (λ found. IfSome found (λ line. drop line.len line.bytes ≡ replicate (512 - line.len) 0)) }
-        ensures falls { IfOk result (λ found. IfSome found (λ _. (self.old.before < self.new.before) × (self.new.before ≤ 16777216))) }
+        ensures falls { IfOk result (λ found. IfSome found (λ _. (self.old.before < self.new.before) × (self.new.before ≤ 268435456))) }
         ensures counts { IfOk result (λ found. IfSome found (λ line. self.old.before + line.len ≤ self.new.before)) }
         ensures takes { (bytes : List ℕ) × Consumes (S.left source.old) (S.left source.new) bytes }
         ensures cause { IsCounted (result ≡ Err LineFault.Read) (S.faults source.old) (S.faults source.new) }

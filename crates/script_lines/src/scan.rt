@@ -8,7 +8,7 @@ ghost use Rattle.script_lines.specs.Scan.{StopsAt, IsScanned, Gathers};
 ghost use Rattle.script_lines.specs.Given.{HasEnd};
 
 use crate::buffer::Buffer;
-use crate::{Failed, LINE_BYTES, LineFault, SCRIPT_BYTES, Source};
+use crate::{Failed, LINE_BYTES, LineFault, MOST_BYTES, Source};
 
 /// What stands after the bytes of a line that are scanned.
 pub enum Found {
@@ -63,9 +63,9 @@ fn scan(held: &[u8], scanned: usize, before: u32) -> usize
     requires { IsScanned held.now scanned before }
     ensures further { scanned ≤ result }
     ensures scan { IsScanned held.now result before }
-    ensures other { result < length held.now → result < 512 → before + result < 16777216 → is_of_line (slice_index held.now result) ≡ false }
+    ensures other { result < length held.now → result < 512 → before + result < 268435456 → is_of_line (slice_index held.now result) ≡ false }
 {
-    let room = (SCRIPT_BYTES - before) as usize;
+    let room = (MOST_BYTES - before) as usize;
     let most = held.len().min(LINE_BYTES).min(room);
     scanned + of_line(&held[scanned..most])
 }
@@ -73,14 +73,14 @@ fn scan(held: &[u8], scanned: usize, before: u32) -> usize
 // What stands after the bytes that are scanned.
 fn found_at(held: &[u8], scanned: usize, before: u32, number: u32) -> Found
     requires scan { IsScanned held.now scanned before }
-    requires other { scanned < length held.now → scanned < 512 → before + scanned < 16777216 → is_of_line (slice_index held.now scanned) ≡ false }
+    requires other { scanned < length held.now → scanned < 512 → before + scanned < 268435456 → is_of_line (slice_index held.now scanned) ≡ false }
     ensures { StopsAt result before number (take scanned held.now) (drop scanned held.now) }
 {
     match held.get(scanned) {
         None => Found::Open,
-        Some(_) if before + scanned as u32 == SCRIPT_BYTES => Found::Fault(
-            LineFault::ScriptTooLong { line: number },
-        ),
+        Some(_) if before + scanned as u32 == MOST_BYTES => Found::Fault(LineFault::ScriptTooLong {
+            line: number,
+        }),
         Some(b'\n') => Found::LineFeed,
         Some(_) if scanned == LINE_BYTES => Found::Fault(LineFault::TooLong { line: number }),
         Some(_) => Found::Fault(LineFault::BadByte { line: number }),

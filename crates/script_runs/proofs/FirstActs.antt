@@ -1,10 +1,10 @@
 -- The acts of what came of a script are the first of its acts.
-use Rattle.std.proofs.Common.{◌≡◌, ℕ, ◌+◌, ◌<◌, Bool, true, false, ◌==◌, IsTrue, Result, Ok, Err, Option, Some, None, List, [], ◌∷◌, ◌++◌, length, refl, ap, sym, ◌∙◌, subst, arith, length-append}
+use Rattle.std.proofs.Common.{◌≡◌, ℕ, ◌+◌, ◌-◌, ◌<◌, Bool, true, false, ◌==◌, IsTrue, Result, Ok, Err, Option, Some, None, List, [], ◌∷◌, ◌++◌, length, refl, ap, sym, ◌∙◌, subst, arith, length-append}
 use Rattle.std.specs.List.{AllByRecursion}
 use Rattle.std.proofs.lemmas.Bool.Decides.{nat_tests}
 use Rattle.script_lines.specs.declared.LineFault.{LineFault}
 use Rattle.script_lines.specs.declared.LineFault.TheVariants.{Read, ScriptTooLong, TooLong, BadByte}
-use Rattle.script_lines.specs.Lines.{limits, NumberedLine, ScriptLines, LinesEnd, Faulty, line_feed, byte_fault, onto_lines, lines_from, lines_of}
+use Rattle.script_lines.specs.Lines.{limits, most_bytes, NumberedLine, ScriptLines, LinesEnd, Faulty, line_feed, byte_fault, onto_lines, lines_from, lines_of}
 use Rattle.script_lines.specs.Reader.{is_of_line, IsOpenLine}
 use Rattle.script_lines.proofs.FirstLines.{picks, lines-whole}
 use Rattle.script_runs.specs.Script.{Script, ScriptKind, Whole, stops_at, onto_acts, byte_end, acts_of, acts_from, script_of, whole_lines_from, whole_lines, script_so_far}
@@ -23,7 +23,7 @@ no_whole before number in_line byte (ScriptTooLong line) is whole = cc
 no_whole before number in_line byte (TooLong line) is whole = cc
 no_whole before number in_line byte (BadByte line) is whole = cc
 
-room-before : (before number in_line byte : ℕ) → byte_fault limits before number in_line byte ≡ None → before < 16777216
+room-before : (before number in_line byte : ℕ) → byte_fault limits before number in_line byte ≡ None → before < 268435456
 room-before before number in_line byte sound = grind (arith, nat_tests)
 
 room-in_line : (before number in_line byte : ℕ) → byte_fault limits before number in_line byte ≡ None → (byte == line_feed) ≡ false → in_line < 512
@@ -89,6 +89,13 @@ first-lines start before number line (byte ∷ bytes) rest same is whole =
     (λ empty whole_next. let none : before + 1 ≡ before + 1 + 0 = omega arith in first-lines (before + 1) (before + 1) (number + 1) [] bytes rest none empty whole_next)
     (λ same_next more whole_next. first-lines start (before + 1) number (line ++ byte ∷ []) bytes rest same_next more whole_next)
 
+plus-none : (n : ℕ) → n ≡ n + 0
+plus-none n = omega arith
+
+-- before its first byte a script has no byte of a line
+none-open : (most : ℕ) → IsOpenLine (most_bytes - most) []
+none-open most = record { plain = tt; fits = omega arith; within = omega arith }
+
 -- ---- and so are their acts
 
 abbrev pub AreFirstActs : {A : Type 0} → List A → List A → Type 0
@@ -147,8 +154,8 @@ module _ {A C : Type 0} (kind : ScriptKind A C) where
 
   pub first-acts : (bytes rest : List ℕ) → (script_so_far kind bytes).last ≡ Whole → AreFirstActs (acts_of (script_so_far kind bytes)) (acts_of (script_of kind (bytes ++ rest)))
   first-acts bytes rest sound =
-      let came : List NumberedLine = (lines_of (whole_lines bytes)).lines in
-      let end : LinesEnd = (lines_of (bytes ++ rest)).last in
-      let first = first-lines 0 0 1 [] bytes rest refl (record { plain = tt; fits = omega arith; within = omega arith }) (whole-end kind.none_counted came (lines_of bytes).last sound) in
+      let came : List NumberedLine = (lines_of kind.bytes (whole_lines bytes)).lines in
+      let end : LinesEnd = (lines_of kind.bytes (bytes ++ rest)).last in
+      let first = first-lines (most_bytes - kind.bytes) (most_bytes - kind.bytes) 1 [] bytes rest (plus-none (most_bytes - kind.bytes)) (none-open kind.bytes) (whole-end kind.none_counted came (lines_of kind.bytes bytes).last sound) in
       subst (λ lines. AreFirstActs (acts_of (script_so_far kind bytes)) (acts_of (acts_from kind kind.none_counted lines end))) (sym first.1)
-      (first-of kind.none_counted came first.0 (lines_of bytes).last end)
+      (first-of kind.none_counted came first.0 (lines_of kind.bytes bytes).last end)

@@ -84,7 +84,7 @@ next-line kind bytes old left line new after acts acts2 c c2 going (inl h) effec
           ap (script_of kind) (shift going.done line.text rest) ∙ going.script (line.text ++ 10 ∷ rest)
           ∙ ap (λ l. onto_all acts (acts_next kind c l)) (whole-at old left line new after rest h) ∙ effect (lines_from limits new.before new.number [] rest);
       last = λ rest.
-          ap (λ b. (lines_of b).last) (shift going.done line.text rest) ∙ going.last (line.text ++ 10 ∷ rest)
+          ap (λ b. (lines_of kind.bytes b).last) (shift going.done line.text rest) ∙ going.last (line.text ++ 10 ∷ rest)
           ∙ ap (λ l. l.last) (whole-at old left line new after rest h);
       whole = λ rest.
           ap whole_lines (shift going.done line.text rest) ∙ going.whole (line.text ++ 10 ∷ rest)
@@ -137,10 +137,10 @@ so-far kind bytes taken old left new after acts c going kept parts =
     (sym parts ∙ going.parts ∙ ap (λ x. going.done ++ x) kept.bytes ∙ sym (append_assoc going.done new.pending after)) in
     let whole : whole_lines taken ≡ going.done ++ [] =
     ap whole_lines is ∙ going.whole new.pending ∙ ap (λ x. going.done ++ x) (whole-none old.before new.pending kept.one_line) in
-    let last : (lines_of taken).last ≡ (lines_of (going.done ++ [])).last =
-    ap (λ b. (lines_of b).last) is ∙ going.last new.pending ∙ lines-pending old.before old.number new.pending kept.one_line ∙ sym (going.last []) in
-    ap (λ b. acts_from kind kind.none_counted (lines_of b).lines (lines_of taken).last) whole
-    ∙ ap (λ l. acts_from kind kind.none_counted (lines_of (going.done ++ [])).lines l) last
+    let last : (lines_of kind.bytes taken).last ≡ (lines_of kind.bytes (going.done ++ [])).last =
+    ap (λ b. (lines_of kind.bytes b).last) is ∙ going.last new.pending ∙ lines-pending old.before old.number new.pending kept.one_line ∙ sym (going.last []) in
+    ap (λ b. acts_from kind kind.none_counted (lines_of kind.bytes b).lines (lines_of kind.bytes taken).last) whole
+    ∙ ap (λ l. acts_from kind kind.none_counted (lines_of kind.bytes (going.done ++ [])).lines l) last
     ∙ going.script [] ∙ onto-nil acts Whole
 
 -- ---- one act more

@@ -10,6 +10,7 @@ use Rattle.script_lines.specs.declared.Line.{Line}
 use Rattle.script_lines.specs.declared.LineFault.{LineFault}
 use Rattle.script_lines.specs.declared.Over.TheVariants as over
 use Rattle.script_lines.specs.Given.{MayGive, GivesPieces}
+use Rattle.script_lines.specs.Lines.{most_bytes}
 use Rattle.script_lines.specs.Reader.{HeldBytes, HandsByGiven}
 use Rattle.script_lines.proofs.Turns.{may-told}
 use Rattle.script_runs.specs.declared.Status.{Status}
@@ -20,23 +21,23 @@ use Rattle.script_runs.specs.Rounds.{IsGoing, SoFar, EndsRun, RoundsBy, RunsOn, 
 
 -- ---- before the first
 
-abbrev pub fresh : HeldBytes
-fresh = record { pending = []; before = 0; number = 1; over = over.Going }
+abbrev pub fresh : ℕ → HeldBytes
+fresh most = record { pending = []; before = most_bytes - most; number = 1; over = over.Going }
 
 -- nothing is read, and nothing done
 pub starts : {A C P E W V : Type 0} (kind : RunKind A C P E W V) (bytes : List ℕ) (held : HeldBytes) (left : List ℕ) (progress : P) (events : V) (taken : Option (List ℕ))
     → kind.printed [] ≡ [] → kind.counted kind.start ≡ kind.scripts.none_counted
-    → held ≡ fresh → Some bytes ≡ Some left → progress ≡ kind.start → events ≡ kind.events_in [] → SoFar kind bytes held left progress events taken taken
+    → held ≡ fresh kind.scripts.bytes → Some bytes ≡ Some left → progress ≡ kind.start → events ≡ kind.events_in [] → SoFar kind bytes held left progress events taken taken
 starts kind bytes held left progress events taken quiet none new all begun blank =
     let same : bytes ≡ left = cc in
-    let read : IsGoing kind.scripts bytes fresh left [] kind.scripts.none_counted = record {
+    let read : IsGoing kind.scripts bytes (fresh kind.scripts.bytes) left [] kind.scripts.none_counted = record {
       done = [];
       parts = same;
       script = λ rest. refl;
       last = λ rest. refl;
       whole = λ rest. refl;
     } in
-    let at : SoFar kind bytes fresh left kind.start events taken taken = record {
+    let at : SoFar kind bytes (fresh kind.scripts.bytes) left kind.start events taken taken = record {
       acts = [];
       effects = [];
       run = (refl, refl);
@@ -44,8 +45,8 @@ starts kind bytes held left progress events taken quiet none new all begun blank
       report = rw quiet (Appends-nil taken);
       read = rw none read;
     } in
-    let whole : SoFar kind bytes fresh left progress events taken taken =
-    subst (λ p. SoFar kind bytes fresh left p events taken taken) (sym begun) at in
+    let whole : SoFar kind bytes (fresh kind.scripts.bytes) left progress events taken taken =
+    subst (λ p. SoFar kind bytes (fresh kind.scripts.bytes) left p events taken taken) (sym begun) at in
     subst (λ h. SoFar kind bytes h left progress events taken taken) (sym new) whole
 
 -- ---- a round

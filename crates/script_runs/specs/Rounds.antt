@@ -25,7 +25,7 @@ pub record IsGoing {A C : Type 0} (kind : ScriptKind A C) (bytes : List ℕ) (he
   pub done : List ℕ
   pub parts : bytes ≡ done ++ (held.pending ++ left)
   pub script : (rest : List ℕ) → script_of kind (done ++ rest) ≡ onto_all acts (acts_next kind counted (lines_from limits held.before held.number [] rest))
-  pub last : (rest : List ℕ) → (lines_of (done ++ rest)).last ≡ (lines_from limits held.before held.number [] rest).last
+  pub last : (rest : List ℕ) → (lines_of kind.bytes (done ++ rest)).last ≡ (lines_from limits held.before held.number [] rest).last
   pub whole : (rest : List ℕ) → whole_lines (done ++ rest) ≡ done ++ whole_lines rest
 
 -- the whole script gave these acts

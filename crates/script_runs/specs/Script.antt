@@ -26,9 +26,10 @@ acts_of script = map (λ numbered. numbered.act) script.acts
 abbrev pub Reading : Type 0 → Type 0
 Reading A = List ℕ → Result (Option A) (List ℕ)
 
--- A kind of scripts: how a line is read; what is counted of the acts, at first and with one act more; and the fault of an
--- act for which there is no room then.
+-- A kind of scripts: how many bytes one may have; how a line is read; what is counted of the acts, at first and with one act
+-- more; and the fault of an act for which there is no room then.
 pub record ScriptKind (A C : Type 0) : Type 0 where
+  pub bytes : ℕ
   pub reading : Reading A
   pub none_counted : C
   pub counted_after : A → C → C
@@ -67,7 +68,7 @@ acts_from kind counted (line ∷ lines) last =
 
 -- The script that some bytes are.
 abbrev pub script_of : {A C : Type 0} → ScriptKind A C → List ℕ → Script A
-script_of kind bytes = acts_from kind kind.none_counted (lines_of bytes).lines (lines_of bytes).last
+script_of kind bytes = acts_from kind kind.none_counted (lines_of kind.bytes bytes).lines (lines_of kind.bytes bytes).last
 
 -- the bytes up to the last line feed, with it
 abbrev pub whole_lines_from : List ℕ → List ℕ → List ℕ
@@ -84,4 +85,4 @@ whole_lines bytes = whole_lines_from [] bytes
 
 -- what some first bytes of a script are so far: the acts of their whole lines, and a fault where they have one
 abbrev pub script_so_far : {A C : Type 0} → ScriptKind A C → List ℕ → Script A
-script_so_far kind bytes = acts_from kind kind.none_counted (lines_of (whole_lines bytes)).lines (lines_of bytes).last
+script_so_far kind bytes = acts_from kind kind.none_counted (lines_of kind.bytes (whole_lines bytes)).lines (lines_of kind.bytes bytes).last

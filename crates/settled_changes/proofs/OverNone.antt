@@ -7,7 +7,7 @@ use Rattle.rule_model.specs.declared.Rule.{Rule}
 use Rattle.rule_model.specs.RuleSet.{has_priority, rule_at}
 use Rattle.rule_store.specs.declared.Command.{Command}
 use Rattle.rule_store.specs.declared.Command.TheVariants.{Add, Set, Del}
-use Rattle.rule_store.specs.Batch.{most_commands, most_pending, with_rule}
+use Rattle.rule_store.specs.Batch.{most_commands, with_rule}
 use Rattle.rule_store.specs.Store.{answered, without_rule}
 use Rattle.rule_store.proofs.Sums.{take-read}
 use Rattle.settled_changes.specs.declared.Request.{Request}
@@ -125,6 +125,6 @@ whole_few rules requests whole made =
     omega arith
 
 -- so it fits a batch
-pub whole_fits : (rules : List Rule) (requests : List Request) (whole : List Rule) → whole ≡ asked_set [] requests → length rules ≤ most_slots → length requests ≤ most_pending
+pub whole_fits : (rules : List Rule) (requests : List Request) (whole : List Rule) → whole ≡ asked_set [] requests → length rules ≤ most_slots → length requests ≤ most_slots
     → length (settled rules (whole_requests rules whole)) ≤ most_commands
 whole_fits rules requests whole made few short = let all = whole_few rules requests whole made in omega arith

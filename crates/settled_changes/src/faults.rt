@@ -28,7 +28,7 @@ pub(crate) fn first_fault(
                 return Ok(Some(fault_behind(rules, &strict, BatchFault::Twice(priority))));
             }
             strictly.insert(priority)?;
-            match strict.push(command) {
+            match strict.push_settled(command) {
                 Ok(()) => {}
                 // There is room: there are no more commands than requests.
                 Err(_) => return Err(AllocError),

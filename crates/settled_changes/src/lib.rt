@@ -16,8 +16,9 @@
 //!   was taken back, or who restarts, settles the same ones again.
 //! - **A whole new set is a [`Store`]**, since that is a set by its type: a list of rules may name a priority twice, and
 //!   whoever makes a set of it decides what that means.
-//! - **A batch has room for 1,056,768 commands**, though no more than 4,096 changes wait for a commit: two for each request,
-//!   since a rule whose conditions change takes two, and one for each of 1,048,576 rules that a whole new set lacks. So nothing
+//! - **A batch has room for 3,145,728 commands**, though no more than 4,096 changes wait for a commit, or 1,048,576 where the
+//!   caller says so (`push_within`): two for each request, since a rule whose conditions change takes two, and one for each of
+//!   1,048,576 rules that a whole new set lacks. So nothing
 //!   that a table is asked for is too long, and no [`SettleFault`] says so. [`settle_whole`] takes sets of any
 //!   size, and answers `Full` where they need more.
 #![tactic(auto)]

@@ -49,10 +49,25 @@ impl Requested {
         ensures full { (result ≡ Err PushFault.Full) ↔ (most_pending ≤ changes_in batch.old self.old) }
         ensures same { OnErr result ((batch.new ≡ batch.old) × (self.new ≡ self.old)) }
     {
+        self.push_within(command, batch, PENDING_COMMANDS)
+    }
+
+    /// The same where so many changes wait at most, `MOST_SLOTS` or fewer: `Full` comes exactly where so many wait or more.
+    pub fn push_within(
+        &mut self,
+        command: Command,
+        batch: &mut Batch,
+        most: u32,
+    ) -> Result<(), PushFault>
+        requires { most ≤ MOST_SLOTS }
+        ensures pushed { OnOk result ((batch.new ≡ batch_with batch.old self.old command) × (self.new ≡ asked_with self.old command)) }
+        ensures full { (result ≡ Err PushFault.Full) ↔ (most ≤ changes_in batch.old self.old) }
+        ensures same { OnErr result ((batch.new ≡ batch.old) × (self.new ≡ self.old)) }
+    {
         match self {
-            Requested::Nothing => batch.push(command),
-            Requested::Changes(requests) => requests.push(Request::Strict(command)),
-            Requested::Whole(requests) => requests.push(Request::Strict(command)),
+            Requested::Nothing => batch.push_within(command, most),
+            Requested::Changes(requests) => requests.push_within(Request::Strict(command), most),
+            Requested::Whole(requests) => requests.push_within(Request::Strict(command), most),
         }
     }
 
@@ -68,11 +83,27 @@ impl Requested {
         ensures full { (result ≡ Err PushFault.Full) ↔ (most_pending ≤ changes_in batch.old self.old) }
         ensures same { OnErr result ((batch.new ≡ batch.old) × (self.new ≡ self.old)) }
     {
+        self.ask_within(alloc, request, batch, PENDING_COMMANDS)
+    }
+
+    /// The same where so many changes wait at most, `MOST_SLOTS` or fewer.
+    pub fn ask_within(
+        &mut self,
+        alloc: Global,
+        request: Request,
+        batch: &mut Batch,
+        most: u32,
+    ) -> Result<(), PushFault>
+        requires { most ≤ MOST_SLOTS }
+        ensures asked { OnOk result ((batch.new ≡ batch_behind batch.old self.old) × (self.new ≡ asked_behind batch.old self.old request)) }
+        ensures full { (result ≡ Err PushFault.Full) ↔ (most ≤ changes_in batch.old self.old) }
+        ensures same { OnErr result ((batch.new ≡ batch.old) × (self.new ≡ self.old)) }
+    {
         let mut requests = match self {
-            Requested::Changes(requests) => return requests.push(request),
-            Requested::Whole(requests) => return requests.push(request),
+            Requested::Changes(requests) => return requests.push_within(request, most),
+            Requested::Whole(requests) => return requests.push_within(request, most),
             Requested::Nothing => {
-                if batch.len() >= PENDING_COMMANDS {
+                if batch.len() >= most {
                     return Err(PushFault::Full);
                 }
                 match Requests::of_batch(alloc, batch) {
@@ -81,7 +112,7 @@ impl Requested {
                 }
             }
         };
-        match requests.push(request) {
+        match requests.push_within(request, most) {
             Ok(()) => {
                 *self = Requested::Changes(requests);
                 batch.clear();

@@ -289,8 +289,8 @@ module _ (since : Since) (left : ℕ) (m m' : SplitManaged) (batch : List Comman
   same_writes : writes_in actions ≡ writes
   same_writes = writes_of_commit (have_bits (new_bits m.whole.bits (bits_with m.whole.mode m.whole.rules batch m.whole.bits))) writes
 
-  pub plan_few : length (writes_left whole'.held) ≤ 2 ^ 39
-  plan_few = subst (λ some. length some ≤ 2 ^ 39) (sym (ap (λ (w : Managed). writes_left w.held) holds.new_is ∙ same_writes)) holds.few
+  pub plan_few : length (writes_left whole'.held) ≤ 2 ^ 35
+  plan_few = subst (λ some. length some ≤ 2 ^ 35) (sym (ap (λ (w : Managed). writes_left w.held) holds.new_is ∙ same_writes)) holds.few
 
   pub counted_few : (parts : ℕ) → parts ≡ parts_number whole'.state (writes_left whole'.held) → parts ≤ 2 ^ 41
   counted_few parts are = let few = plan_few in let most = parts_few whole'.state (writes_left whole'.held) in omega arith

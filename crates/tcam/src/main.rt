@@ -14,6 +14,8 @@
 //!   and `MemSplit`, whose writes they read.
 #![tactic(auto)]
 
+ghost use Rattle.std.specs.Prelude.{◌≤◌};
+
 mod modelled;
 
 use explain_cli::explain;
@@ -21,14 +23,15 @@ use import_cli::{Asked, read_words, run_import};
 use judge_cli::run_judge;
 use memory_tcam::Shadowed;
 use modelled::Modelled;
-use router_cli::run_router;
+use router_cli::{router_slots_wanted, run_router};
 use script_lines::{ReadFrom, Sink, Source, WriteTo};
+use slot_order::{MOST_SLOTS, SCRIPT_SLOTS};
 use split_hardware::SplitShadowed;
 use std::alloc::AllocError;
 use std::env::{self, Env};
 use std::process::ExitCode;
 use std::{fs, io};
-use tcam_cli::{Status, run};
+use tcam_cli::{Status, run, slots_wanted};
 use trace_draw::draw;
 
 /// The words of the process's command line, or none where they can't be had for another cause than memory.
@@ -108,14 +111,30 @@ fn run_on_file<S: Source, K: Sink>(
     Ok(run_import(rt.alloc(), words, older.as_slice(), source, sink))
 }
 
-/// Runs words over a source, a sink and a blank device in memory. Its journal is for proofs alone, and takes no memory.
+/// How many slots a modelled device has where so many are wanted: as many, and 4,096 at least.
+fn device_slots(wanted: u32) -> u32
+    requires { wanted ≤ MOST_SLOTS }
+    ensures some { 1 ≤ result }
+    ensures wanted { wanted ≤ result }
+    ensures most { result ≤ MOST_SLOTS }
+{
+    if wanted < SCRIPT_SLOTS {
+        SCRIPT_SLOTS
+    } else {
+        wanted
+    }
+}
+
+/// Runs words over a source, a sink and a blank device in memory, of as many slots as they ask for, and 4,096 at least. Its
+/// journal is for proofs alone, and takes no memory.
 fn run_on_device<S: Source, K: Sink>(
     rt: &HostRuntime,
     words: &[String],
     source: &mut S,
     sink: &mut K,
 ) -> Result<Status, AllocError> {
-    let mut device = Shadowed::new(rt.alloc(), Modelled::new())?;
+    let slots = device_slots(slots_wanted(rt.alloc(), words)?);
+    let mut device = Shadowed::new(rt.alloc(), Modelled::new(slots))?;
     Ok(run(rt.alloc(), words, source, sink, &mut device))
 }
 
@@ -126,8 +145,9 @@ fn run_on_two<S: Source, K: Sink>(
     source: &mut S,
     sink: &mut K,
 ) -> Result<Status, AllocError> {
-    let mut list = SplitShadowed::new(rt.alloc(), Modelled::new())?;
-    let mut routes = SplitShadowed::new(rt.alloc(), Modelled::new())?;
+    let slots = device_slots(router_slots_wanted(rt.alloc(), words)?);
+    let mut list = SplitShadowed::new(rt.alloc(), Modelled::new(slots))?;
+    let mut routes = SplitShadowed::new(rt.alloc(), Modelled::new(slots))?;
     Ok(run_router(rt.alloc(), words, source, sink, &mut list, &mut routes))
 }
 

@@ -1,27 +1,30 @@
 //! The hardware that the program drives.
 
-ghost use Rattle.std.specs.Prelude.{IsOk};
-ghost use Rattle.slot_order.specs.Order.{script_slots};
+ghost use Rattle.std.specs.Prelude.{IsOk, ◌≡◌};
 
-use slot_order::SCRIPT_SLOTS;
 use split_device::SplitWrite;
 use split_hardware::SplitHardware;
 use tcam_device::{DeviceFault, Hardware, Write};
 
-/// Hardware that takes each write and holds nothing: what stands in slots and tables is in the memory that `Shadowed`, or
-/// `SplitShadowed`, keeps beside it. So the modelled device takes memory by its slots, however many writes are made.
+/// Hardware of so many slots that takes each write and holds nothing: what stands in slots and tables is in the memory that
+/// `Shadowed`, or `SplitShadowed`, keeps beside it. So the modelled device takes memory by its slots, however many writes are
+/// made.
 #[derive(Drop)]
-pub struct Modelled {}
+pub struct Modelled {
+    slots: u32,
+}
 
 impl Modelled {
-    /// Blank hardware.
-    pub fn new() -> Modelled {
-        Modelled {}
+    /// Blank hardware of so many slots.
+    pub fn new(slots: u32) -> Modelled
+        ensures { result.slots ≡ slots }
+    {
+        Modelled { slots }
     }
 }
 
 impl Hardware for Modelled {
-    ghost slot_count = { λ m. script_slots };
+    ghost slot_count = { λ m. m.slots };
 
     // No write fails.
     ghost puts = { λ before write answer after. IsOk answer };
@@ -29,7 +32,7 @@ impl Hardware for Modelled {
     ghost drains = { λ before after. Unit {0} };
 
     fn slots(&self) -> u32 {
-        SCRIPT_SLOTS
+        self.slots
     }
 
     fn put(&mut self, _write: &Write) -> Result<(), DeviceFault> {
@@ -40,7 +43,7 @@ impl Hardware for Modelled {
 }
 
 impl SplitHardware for Modelled {
-    ghost slot_count = { λ m. script_slots };
+    ghost slot_count = { λ m. m.slots };
 
     // No write fails.
     ghost puts = { λ before write answer after. IsOk answer };
@@ -48,7 +51,7 @@ impl SplitHardware for Modelled {
     ghost drains = { λ before after. Unit {0} };
 
     fn slots(&self) -> u32 {
-        SCRIPT_SLOTS
+        self.slots
     }
 
     fn put(&mut self, _write: &SplitWrite) -> Result<(), DeviceFault> {

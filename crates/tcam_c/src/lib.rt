@@ -35,7 +35,7 @@
 //!   clause can say, and a device that fails each write until it is told has a clause for the failure alone, not for
 //!   the write that was asked. So `Manager::next_write`, `serving` and `drains_next` are public, `tcam_next` changes
 //!   nothing, and `tcam_made` is the manager's step over hardware that took the write already, of which it is proved
-//!   that no write failed. The price is the shadow of 4,096 slots beside the caller's memory, which `tcam_answer`
+//!   that no write failed. The price is the shadow of all slots beside the caller's memory, which `tcam_answer`
 //!   reads. A commit settles with its last write, so no call only ends it.
 //! - **One handle for both kinds of memory** (`Table`), so that a driver's loop is the same, and what a call does is said by
 //!   kind (`specs/Tables`). The batch is beside it, since it has no kind. The price is that a misuse across kinds, a driver

@@ -1,12 +1,12 @@
 -- What some command lines ask for, by computation.
 use Rattle.std.proofs.Common.{◌≡◌, true, false, None, Some, [], ◌∷◌, refl}
 use Rattle.std.specs.Prelude.{⊤, codes}
-use Rattle.slot_order.specs.Order.{script_slots}
+use Rattle.slot_order.specs.Order.{most_slots, script_slots}
 use Rattle.clap.proofs.OnLiterals.{clap_on_literals}
 use Rattle.rule_store.specs.declared.Mode.TheVariants.{Cover, Bits}
 use Rattle.batch_order.specs.declared.Placement.TheVariants.{Middle, Rank}
 use Rattle.report_lines.specs.declared.Family.TheVariants.{Route, Acl, Route6, Acl6}
-use Rattle.option_words.specs.Options.{number_position, placement_option, ranges_option, slots_option, trace_flag}
+use Rattle.option_words.specs.Options.{large_flag, number_position, placement_option, ranges_option, slots_option, trace_flag}
 use Rattle.tcam_cli.specs.CommandLine.{acl_app, depth_option, gen_app, job_of, route_app, script_setting, tcam_app, tcam_top, json_flag, names_flag, removals_option, verify_app}
 use Rattle.tcam_cli.specs.Headline.{NoJob, Tells, Reads, Makes, Verifies}
 use Rattle.tcam_cli.specs.OwnTexts.{HelpOn, Version}
@@ -14,7 +14,7 @@ use Rattle.tcam_cli.specs.declared.own_texts.Topic.TheVariants as about
 
 -- what a proof unfolds to compute what words ask for
 unfoldable the_declaration : ⊤
-unfolding clap_on_literals tcam_app tcam_top route_app acl_app gen_app slots_option ranges_option placement_option trace_flag json_flag names_flag removals_option depth_option number_position verify_app
+unfolding clap_on_literals tcam_app tcam_top route_app acl_app gen_app slots_option ranges_option placement_option trace_flag large_flag json_flag names_flag removals_option depth_option number_position verify_app
 the_declaration = tt
 
 unknown : job_of (codes "tcam" ∷ codes "frob" ∷ []) ≡ NoJob
@@ -33,19 +33,19 @@ too-many-slots : job_of (codes "tcam" ∷ codes "route" ∷ codes "--slots" ∷ 
 unfolding the_declaration
 too-many-slots = refl
 
-routes : job_of (codes "tcam" ∷ codes "route" ∷ []) ≡ Reads (script_setting Route script_slots Cover Middle false 0 false false false)
+routes : job_of (codes "tcam" ∷ codes "route" ∷ []) ≡ Reads (script_setting Route script_slots Cover Middle false 0 false false false false)
 unfolding the_declaration
 routes = refl
 
-some-slots : job_of (codes "tcam" ∷ codes "route" ∷ codes "--slots" ∷ codes "8" ∷ []) ≡ Reads (script_setting Route 8 Cover Middle false 0 false false false)
+some-slots : job_of (codes "tcam" ∷ codes "route" ∷ codes "--slots" ∷ codes "8" ∷ []) ≡ Reads (script_setting Route 8 Cover Middle false 0 false false false false)
 unfolding the_declaration
 some-slots = refl
 
-routes-of-six : job_of (codes "tcam" ∷ codes "route6" ∷ codes "--trace" ∷ codes "--slots" ∷ codes "8" ∷ []) ≡ Reads (script_setting Route6 8 Cover Middle true 0 false false false)
+routes-of-six : job_of (codes "tcam" ∷ codes "route6" ∷ codes "--trace" ∷ codes "--slots" ∷ codes "8" ∷ []) ≡ Reads (script_setting Route6 8 Cover Middle true 0 false false false false)
 unfolding the_declaration
 routes-of-six = refl
 
-lists-of-six : job_of (codes "tcam" ∷ codes "acl6" ∷ codes "--ranges" ∷ codes "bits" ∷ codes "--placement" ∷ codes "rank" ∷ []) ≡ Reads (script_setting Acl6 script_slots Bits Rank false 0 false false false)
+lists-of-six : job_of (codes "tcam" ∷ codes "acl6" ∷ codes "--ranges" ∷ codes "bits" ∷ codes "--placement" ∷ codes "rank" ∷ []) ≡ Reads (script_setting Acl6 script_slots Bits Rank false 0 false false false false)
 unfolding the_declaration
 lists-of-six = refl
 
@@ -89,15 +89,15 @@ version-of-routes : job_of (codes "tcam" ∷ codes "route" ∷ codes "--version"
 unfolding the_declaration
 version-of-routes = refl
 
-plus : job_of (codes "tcam" ∷ codes "route" ∷ codes "--slots" ∷ codes "+008" ∷ []) ≡ Reads (script_setting Route 8 Cover Middle false 0 false false false)
+plus : job_of (codes "tcam" ∷ codes "route" ∷ codes "--slots" ∷ codes "+008" ∷ []) ≡ Reads (script_setting Route 8 Cover Middle false 0 false false false false)
 unfolding the_declaration
 plus = refl
 
-lists : job_of (codes "tcam" ∷ codes "acl" ∷ []) ≡ Reads (script_setting Acl script_slots Cover Middle false 0 false false false)
+lists : job_of (codes "tcam" ∷ codes "acl" ∷ []) ≡ Reads (script_setting Acl script_slots Cover Middle false 0 false false false false)
 unfolding the_declaration
 lists = refl
 
-slots-of-lists : job_of (codes "tcam" ∷ codes "acl" ∷ codes "--slots=8" ∷ []) ≡ Reads (script_setting Acl 8 Cover Middle false 0 false false false)
+slots-of-lists : job_of (codes "tcam" ∷ codes "acl" ∷ codes "--slots=8" ∷ []) ≡ Reads (script_setting Acl 8 Cover Middle false 0 false false false false)
 unfolding the_declaration
 slots-of-lists = refl
 
@@ -113,15 +113,15 @@ help-of-lists : job_of (codes "tcam" ∷ codes "acl" ∷ codes "--help" ∷ []) 
 unfolding the_declaration
 help-of-lists = refl
 
-traced : job_of (codes "tcam" ∷ codes "route" ∷ codes "--trace" ∷ codes "--slots" ∷ codes "8" ∷ []) ≡ Reads (script_setting Route 8 Cover Middle true 0 false false false)
+traced : job_of (codes "tcam" ∷ codes "route" ∷ codes "--trace" ∷ codes "--slots" ∷ codes "8" ∷ []) ≡ Reads (script_setting Route 8 Cover Middle true 0 false false false false)
 unfolding the_declaration
 traced = refl
 
-named : job_of (codes "tcam" ∷ codes "route" ∷ codes "--names" ∷ codes "--trace" ∷ codes "--slots" ∷ codes "8" ∷ []) ≡ Reads (script_setting Route 8 Cover Middle true 0 false true false)
+named : job_of (codes "tcam" ∷ codes "route" ∷ codes "--names" ∷ codes "--trace" ∷ codes "--slots" ∷ codes "8" ∷ []) ≡ Reads (script_setting Route 8 Cover Middle true 0 false true false false)
 unfolding the_declaration
 named = refl
 
-named-lists : job_of (codes "tcam" ∷ codes "acl6" ∷ codes "--names" ∷ []) ≡ Reads (script_setting Acl6 script_slots Cover Middle false 0 false true false)
+named-lists : job_of (codes "tcam" ∷ codes "acl6" ∷ codes "--names" ∷ []) ≡ Reads (script_setting Acl6 script_slots Cover Middle false 0 false true false false)
 unfolding the_declaration
 named-lists = refl
 
@@ -133,15 +133,15 @@ traced-twice : job_of (codes "tcam" ∷ codes "route" ∷ codes "--trace" ∷ co
 unfolding the_declaration
 traced-twice = refl
 
-in-json : job_of (codes "tcam" ∷ codes "route" ∷ codes "--slots" ∷ codes "8" ∷ codes "--json" ∷ []) ≡ Reads (script_setting Route 8 Cover Middle false 0 true false false)
+in-json : job_of (codes "tcam" ∷ codes "route" ∷ codes "--slots" ∷ codes "8" ∷ codes "--json" ∷ []) ≡ Reads (script_setting Route 8 Cover Middle false 0 true false false false)
 unfolding the_declaration
 in-json = refl
 
-lists-in-json : job_of (codes "tcam" ∷ codes "acl" ∷ codes "--json" ∷ codes "--ranges" ∷ codes "bits" ∷ []) ≡ Reads (script_setting Acl script_slots Bits Middle false 0 true false false)
+lists-in-json : job_of (codes "tcam" ∷ codes "acl" ∷ codes "--json" ∷ codes "--ranges" ∷ codes "bits" ∷ []) ≡ Reads (script_setting Acl script_slots Bits Middle false 0 true false false false)
 unfolding the_declaration
 lists-in-json = refl
 
-json-of-six : job_of (codes "tcam" ∷ codes "route6" ∷ codes "--json" ∷ []) ≡ Reads (script_setting Route6 script_slots Cover Middle false 0 true false false)
+json-of-six : job_of (codes "tcam" ∷ codes "route6" ∷ codes "--json" ∷ []) ≡ Reads (script_setting Route6 script_slots Cover Middle false 0 true false false false)
 unfolding the_declaration
 json-of-six = refl
 
@@ -149,19 +149,19 @@ traced-by-a-value : job_of (codes "tcam" ∷ codes "route" ∷ codes "--trace=tr
 unfolding the_declaration
 traced-by-a-value = refl
 
-traced-lists : job_of (codes "tcam" ∷ codes "acl" ∷ codes "--trace" ∷ []) ≡ Reads (script_setting Acl script_slots Cover Middle true 0 false false false)
+traced-lists : job_of (codes "tcam" ∷ codes "acl" ∷ codes "--trace" ∷ []) ≡ Reads (script_setting Acl script_slots Cover Middle true 0 false false false false)
 unfolding the_declaration
 traced-lists = refl
 
-by-rank : job_of (codes "tcam" ∷ codes "route" ∷ codes "--placement" ∷ codes "rank" ∷ []) ≡ Reads (script_setting Route script_slots Cover Rank false 0 false false false)
+by-rank : job_of (codes "tcam" ∷ codes "route" ∷ codes "--placement" ∷ codes "rank" ∷ []) ≡ Reads (script_setting Route script_slots Cover Rank false 0 false false false false)
 unfolding the_declaration
 by-rank = refl
 
-by-the-middle : job_of (codes "tcam" ∷ codes "route" ∷ codes "--placement" ∷ codes "middle" ∷ []) ≡ Reads (script_setting Route script_slots Cover Middle false 0 false false false)
+by-the-middle : job_of (codes "tcam" ∷ codes "route" ∷ codes "--placement" ∷ codes "middle" ∷ []) ≡ Reads (script_setting Route script_slots Cover Middle false 0 false false false false)
 unfolding the_declaration
 by-the-middle = refl
 
-lists-by-rank : job_of (codes "tcam" ∷ codes "acl" ∷ codes "--trace" ∷ codes "--placement=rank" ∷ codes "--slots" ∷ codes "8" ∷ []) ≡ Reads (script_setting Acl 8 Cover Rank true 0 false false false)
+lists-by-rank : job_of (codes "tcam" ∷ codes "acl" ∷ codes "--trace" ∷ codes "--placement=rank" ∷ codes "--slots" ∷ codes "8" ∷ []) ≡ Reads (script_setting Acl 8 Cover Rank true 0 false false false false)
 unfolding the_declaration
 lists-by-rank = refl
 
@@ -193,15 +193,15 @@ by-two-words-at-once : job_of (codes "tcam" ∷ codes "acl" ∷ codes "--placeme
 unfolding the_declaration
 by-two-words-at-once = refl
 
-made : job_of (codes "tcam" ∷ codes "gen" ∷ codes "1" ∷ codes "1" ∷ codes "2" ∷ []) ≡ Makes (script_setting Acl script_slots Cover Middle false 0 false false false) 1 1 2
+made : job_of (codes "tcam" ∷ codes "gen" ∷ codes "1" ∷ codes "1" ∷ codes "2" ∷ []) ≡ Makes (script_setting Acl script_slots Cover Middle false 0 false false false false) 1 1 2
 unfolding the_declaration
 made = refl
 
-made-in-few-slots : job_of (codes "tcam" ∷ codes "gen" ∷ codes "1" ∷ codes "--slots" ∷ codes "8" ∷ codes "--placement=rank" ∷ codes "256" ∷ codes "64" ∷ []) ≡ Makes (script_setting Acl 8 Cover Rank false 0 false false false) 1 256 64
+made-in-few-slots : job_of (codes "tcam" ∷ codes "gen" ∷ codes "1" ∷ codes "--slots" ∷ codes "8" ∷ codes "--placement=rank" ∷ codes "256" ∷ codes "64" ∷ []) ≡ Makes (script_setting Acl 8 Cover Rank false 0 false false false false) 1 256 64
 unfolding the_declaration
 made-in-few-slots = refl
 
-made-of-the-greatest-seed : job_of (codes "tcam" ∷ codes "gen" ∷ codes "2147483647" ∷ codes "1" ∷ codes "1" ∷ []) ≡ Makes (script_setting Acl script_slots Cover Middle false 0 false false false) 2147483647 1 1
+made-of-the-greatest-seed : job_of (codes "tcam" ∷ codes "gen" ∷ codes "2147483647" ∷ codes "1" ∷ codes "1" ∷ []) ≡ Makes (script_setting Acl script_slots Cover Middle false 0 false false false false) 2147483647 1 1
 unfolding the_declaration
 made-of-the-greatest-seed = refl
 
@@ -253,19 +253,19 @@ made-with-a-trace : job_of (codes "tcam" ∷ codes "gen" ∷ codes "1" ∷ codes
 unfolding the_declaration
 made-with-a-trace = refl
 
-made-in-bits : job_of (codes "tcam" ∷ codes "gen" ∷ codes "1" ∷ codes "1" ∷ codes "1" ∷ codes "--ranges" ∷ codes "bits" ∷ []) ≡ Makes (script_setting Acl script_slots Bits Middle false 0 false false false) 1 1 1
+made-in-bits : job_of (codes "tcam" ∷ codes "gen" ∷ codes "1" ∷ codes "1" ∷ codes "1" ∷ codes "--ranges" ∷ codes "bits" ∷ []) ≡ Makes (script_setting Acl script_slots Bits Middle false 0 false false false false) 1 1 1
 unfolding the_declaration
 made-in-bits = refl
 
-lists-in-bits : job_of (codes "tcam" ∷ codes "acl" ∷ codes "--ranges" ∷ codes "bits" ∷ []) ≡ Reads (script_setting Acl script_slots Bits Middle false 0 false false false)
+lists-in-bits : job_of (codes "tcam" ∷ codes "acl" ∷ codes "--ranges" ∷ codes "bits" ∷ []) ≡ Reads (script_setting Acl script_slots Bits Middle false 0 false false false false)
 unfolding the_declaration
 lists-in-bits = refl
 
-lists-in-bits-by-rank : job_of (codes "tcam" ∷ codes "acl" ∷ codes "--placement" ∷ codes "rank" ∷ codes "--ranges=bits" ∷ codes "--trace" ∷ codes "--slots" ∷ codes "8" ∷ []) ≡ Reads (script_setting Acl 8 Bits Rank true 0 false false false)
+lists-in-bits-by-rank : job_of (codes "tcam" ∷ codes "acl" ∷ codes "--placement" ∷ codes "rank" ∷ codes "--ranges=bits" ∷ codes "--trace" ∷ codes "--slots" ∷ codes "8" ∷ []) ≡ Reads (script_setting Acl 8 Bits Rank true 0 false false false false)
 unfolding the_declaration
 lists-in-bits-by-rank = refl
 
-deep : job_of (codes "tcam" ∷ codes "route6" ∷ codes "--depth" ∷ codes "15" ∷ []) ≡ Reads (script_setting Route6 script_slots Cover Middle false 15 false false false)
+deep : job_of (codes "tcam" ∷ codes "route6" ∷ codes "--depth" ∷ codes "15" ∷ []) ≡ Reads (script_setting Route6 script_slots Cover Middle false 15 false false false false)
 unfolding the_declaration
 deep = refl
 
@@ -277,7 +277,7 @@ made-in-depth : job_of (codes "tcam" ∷ codes "gen" ∷ codes "1" ∷ codes "1"
 unfolding the_declaration
 made-in-depth = refl
 
-lists-in-covers : job_of (codes "tcam" ∷ codes "acl" ∷ codes "--ranges" ∷ codes "cover" ∷ []) ≡ Reads (script_setting Acl script_slots Cover Middle false 0 false false false)
+lists-in-covers : job_of (codes "tcam" ∷ codes "acl" ∷ codes "--ranges" ∷ codes "cover" ∷ []) ≡ Reads (script_setting Acl script_slots Cover Middle false 0 false false false false)
 unfolding the_declaration
 lists-in-covers = refl
 
@@ -328,3 +328,25 @@ checked-by-a-name = refl
 help-of-checks : job_of (codes "tcam" ∷ codes "verify" ∷ codes "--help" ∷ []) ≡ Tells (HelpOn (Some about.Verify))
 unfolding the_declaration
 help-of-checks = refl
+
+-- ---- the large sizes
+
+large : job_of (codes "tcam" ∷ codes "route" ∷ codes "--large" ∷ codes "--slots" ∷ codes "1048576" ∷ []) ≡ Reads (script_setting Route most_slots Cover Middle false 0 false false false true)
+unfolding the_declaration
+large = refl
+
+large-by-default : job_of (codes "tcam" ∷ codes "acl6" ∷ codes "--large" ∷ []) ≡ Reads (script_setting Acl6 script_slots Cover Middle false 0 false false false true)
+unfolding the_declaration
+large-by-default = refl
+
+too-many-slots-of-large : job_of (codes "tcam" ∷ codes "acl" ∷ codes "--large" ∷ codes "--slots" ∷ codes "1048577" ∷ []) ≡ NoJob
+unfolding the_declaration
+too-many-slots-of-large = refl
+
+large-in-json : job_of (codes "tcam" ∷ codes "route6" ∷ codes "--json" ∷ codes "--large" ∷ []) ≡ NoJob
+unfolding the_declaration
+large-in-json = refl
+
+made-of-large : job_of (codes "tcam" ∷ codes "gen" ∷ codes "1" ∷ codes "1" ∷ codes "1" ∷ codes "--large" ∷ []) ≡ NoJob
+unfolding the_declaration
+made-of-large = refl

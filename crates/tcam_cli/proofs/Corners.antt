@@ -3,12 +3,13 @@ use Rattle.std.proofs.Common.{◌≡◌, ℕ, zero, suc, List, [], ◌∷◌, �
 use Rattle.std.specs.Prelude.{codes}
 use Rattle.report_lines.specs.declared.Family.TheVariants.{Route, Acl}
 use Rattle.script_runs.specs.Script.{ScriptEnd, Whole, FaultAt}
+use Rattle.report_lines.specs.Sizes.{usual_sizes}
 use Rattle.replay.specs.Script.{script_of}
 use Rattle.tcam_cli.specs.Readings.{reading}
 use Rattle.tcam_cli.specs.Headline.{script_so_far}
 
 abbrev end-of : List ℕ → ScriptEnd
-end-of bytes = (script_of (reading Route) bytes).last
+end-of bytes = (script_of usual_sizes (reading Route) bytes).last
 
 skipped : end-of (32 ∷ 9 ∷ 13 ∷ 10 ∷ 9 ∷ codes "#x y" ++ 10 ∷ codes "commit" ++ 13 ∷ 10 ∷ []) ≡ Whole
 skipped = refl
@@ -17,7 +18,7 @@ second : end-of (codes "commit" ++ 10 ∷ codes "route add 10.0.0.1/8 7" ++ 10 �
 second = refl
 
 -- each family has commands of its own
-other-route : (script_of (reading Acl) (codes "route add 10.0.0.0/8 7")).last ≡ FaultAt 1 (codes "unknown command")
+other-route : (script_of usual_sizes (reading Acl) (codes "route add 10.0.0.0/8 7")).last ≡ FaultAt 1 (codes "unknown command")
 other-route = refl
 
 other-list : end-of (codes "acl del 7") ≡ FaultAt 1 (codes "unknown command")
@@ -37,16 +38,16 @@ full-and-feed : end-of (replicate 512 32 ++ 10 ∷ []) ≡ Whole
 full-and-feed = refl
 
 -- what has come
-cut : (script_so_far (reading Route) (codes "commit")).acts ≡ []
+cut : (script_so_far usual_sizes (reading Route) (codes "commit")).acts ≡ []
 cut = refl
 
-cut-last : (script_so_far (reading Route) (codes "commit")).last ≡ Whole
+cut-last : (script_so_far usual_sizes (reading Route) (codes "commit")).last ≡ Whole
 cut-last = refl
 
-come : length (script_so_far (reading Route) (codes "commit" ++ 10 ∷ codes "com")).acts ≡ 1
+come : length (script_so_far usual_sizes (reading Route) (codes "commit" ++ 10 ∷ codes "com")).acts ≡ 1
 come = refl
 
-come-byte : (script_so_far (reading Route) (codes "commit" ++ 10 ∷ codes "com" ++ 200 ∷ [])).last ≡ FaultAt 2 (codes "bad byte")
+come-byte : (script_so_far usual_sizes (reading Route) (codes "commit" ++ 10 ∷ codes "com" ++ 200 ∷ [])).last ≡ FaultAt 2 (codes "bad byte")
 come-byte = refl
 
 -- so many probes

@@ -14,6 +14,7 @@ use Rattle.rule_model.specs.AddressBlock.{ipv4_block}
 use Rattle.rule_model.specs.Rank.{ipv4_route_rank, list_rank}
 use Rattle.rule_model.specs.Rule.{route_rule}
 use Rattle.script_runs.specs.Script.{Whole, FaultAt}
+use Rattle.report_lines.specs.Sizes.{usual_sizes}
 use Rattle.replay.specs.Script.{script_of}
 use Rattle.replay.specs.Text.{accepted_line, refused_line}
 use Rattle.report_lines.specs.Text.{fault_line}
@@ -45,7 +46,7 @@ use Rattle.tcam_cli.specs.CommandLine.{script_setting}
 use Rattle.tcam_cli.specs.Headline.{NoJob, Reads, IsCarriedOut}
 
 abbrev routes : ℕ → Setting
-routes slots = script_setting Route slots Cover Middle false 0 false false false
+routes slots = script_setting Route slots Cover Middle false 0 false false false false
 
 abbrev feed : List ℕ → List ℕ
 feed line = line ++ 10 ∷ []
@@ -78,11 +79,11 @@ ten = Command (Add (route_rule (ipv4_route_rank (ipv4_block 0x0a000000 8)) (ipv4
 abbrev eleven : Act
 eleven = Command (Add (route_rule (ipv4_route_rank (ipv4_block 0x0b000000 8)) (ipv4_block 0x0b000000 8) 8))
 
-two-routes-acts : script_of (reading Route) two-routes ≡ record { acts = record { line = 1; act = ten } ∷ record { line = 2; act = eleven } ∷ record { line = 3; act = Commit } ∷ []; last = Whole }
+two-routes-acts : script_of usual_sizes (reading Route) two-routes ≡ record { acts = record { line = 1; act = ten } ∷ record { line = 2; act = eleven } ∷ record { line = 3; act = Commit } ∷ []; last = Whole }
 two-routes-acts = refl
 
 -- the acts of a change and of a removal, by the priority of a prefix
-changes-acts : script_of (reading Route) (feed (codes "route set 10.0.0.0/8 9") ++ feed (codes "route del 11.0.0.0/8"))
+changes-acts : script_of usual_sizes (reading Route) (feed (codes "route set 10.0.0.0/8 9") ++ feed (codes "route del 11.0.0.0/8"))
     ≡ record {
       acts = record { line = 1; act = Command (Set (ipv4_route_rank (ipv4_block 0x0a000000 8)) 9) } ∷ record { line = 2; act = Command (Del (ipv4_route_rank (ipv4_block 0x0b000000 8))) } ∷ [];
       last = Whole;
@@ -90,7 +91,7 @@ changes-acts : script_of (reading Route) (feed (codes "route set 10.0.0.0/8 9") 
 changes-acts = refl
 
 -- the same of a line of an access list, by the priority of a sequence number
-list-acts : script_of (reading Acl) (feed (codes "acl set 100 permit") ++ feed (codes "acl del 7"))
+list-acts : script_of usual_sizes (reading Acl) (feed (codes "acl set 100 permit") ++ feed (codes "acl del 7"))
     ≡ record {
       acts = record { line = 1; act = Command (Set (list_rank 100) 1) } ∷ record { line = 2; act = Command (Del (list_rank 7)) } ∷ [];
       last = Whole;
@@ -98,7 +99,7 @@ list-acts : script_of (reading Acl) (feed (codes "acl set 100 permit") ++ feed (
 list-acts = refl
 
 -- changes that don't ask what is there, and a whole new set, which can't be begun while they are pending
-feed-acts : script_of (reading Route) (feed (codes "route put 10.0.0.0/8 9") ++ feed (codes "route drop 10.0.0.0/8") ++ feed (codes "route all"))
+feed-acts : script_of usual_sizes (reading Route) (feed (codes "route put 10.0.0.0/8 9") ++ feed (codes "route drop 10.0.0.0/8") ++ feed (codes "route all"))
     ≡ record {
       acts = record { line = 1; act = Ask (Puts (route_rule (ipv4_route_rank (ipv4_block 0x0a000000 8)) (ipv4_block 0x0a000000 8) 9)) }
           ∷ record { line = 2; act = Ask (Drops (ipv4_route_rank (ipv4_block 0x0a000000 8))) } ∷ [];
@@ -106,7 +107,7 @@ feed-acts : script_of (reading Route) (feed (codes "route put 10.0.0.0/8 9") ++ 
     }
 feed-acts = refl
 
-whole-acts : script_of (reading Acl) (feed (codes "acl all") ++ feed (codes "acl drop 7"))
+whole-acts : script_of usual_sizes (reading Acl) (feed (codes "acl all") ++ feed (codes "acl drop 7"))
     ≡ record {
       acts = record { line = 1; act = All } ∷ record { line = 2; act = Ask (Drops (list_rank 7)) } ∷ [];
       last = Whole;

@@ -13,6 +13,7 @@ use Rattle.tcam_device.specs.declared.Action.{Action}
 use Rattle.replay.specs.declared.Act.{Act}
 use Rattle.replay.specs.declared.RunFault.{RunFault}
 use Rattle.replay.specs.declared.RunFault.TheVariants as run_fault
+use Rattle.report_lines.specs.Sizes.{sizes_by}
 use Rattle.replay.specs.Script.{limit_fault, script_of}
 use Rattle.replay.specs.Reports.{fault_told}
 use Rattle.replay.specs.Effects.{Setting}
@@ -46,7 +47,7 @@ closes-by run new number text result before after same closes =
 -- a line came, of an act for which there is room
 module _ (setting : Setting) (slots : ℕ) (bytes : List ℕ) (old : HeldBytes) (left : List ℕ) (last : Progress) (events : List Action) (start before : Option (List ℕ)) (s : SoFar (run_kind setting slots) bytes old left last events start before)
     (line : Line) (new : HeldBytes) (now : List ℕ) (again : Again old.over (Ok (Some line))) (hands : old.over ≡ over.Going → HandsOne old left (numbered line) new now)
-    (act : Act) (is : reading_by setting (numbered line).text ≡ Ok (Some act)) (room : limit_fault act (changes_in last.batch last.asked) (length last.probes) ≡ None) (events_new : List Action) (after : Option (List ℕ)) where
+    (act : Act) (is : reading_by setting (numbered line).text ≡ Ok (Some act)) (room : limit_fault (sizes_by setting.large).commands act (changes_in last.batch last.asked) (length last.probes) ≡ None) (events_new : List Action) (after : Option (List ℕ)) where
   at : IsAt slots events last
   at = run-at setting slots (acts_only s.acts) s.effects last events s.run s.events_is
 
@@ -63,7 +64,7 @@ module _ (setting : Setting) (slots : ℕ) (bytes : List ℕ) (old : HeldBytes) 
   exit-stopped taken why stops =
       exits.exit-stopped (run_kind setting slots) joins bytes old left last events start before s line new now again hands act is room events_new after taken (status_of_fault why)
       (λ later acts.
-      stopped-outcome setting slots (script_of (reading_by setting) bytes) (script_so_far (reading_by setting) taken) (acts_only s.acts) s.effects last events start before s.run s.events_is s.report
+      stopped-outcome setting slots (script_of (sizes_by setting.large) (reading_by setting) bytes) (script_so_far (sizes_by setting.large) (reading_by setting) taken) (acts_only s.acts) s.effects last events start before s.run s.events_is s.report
       act later acts events_new after why stops)
       (not-whole why)
 

@@ -15,7 +15,7 @@ use Rattle.tcam_cli.specs.Headline.{Reads, MayEnd}
 use Rattle.tcam_cli.specs.Given.{IsPromisedByGiven}
 
 abbrev routes : Setting
-routes = script_setting Route 8 Cover Middle false 0 false false false
+routes = script_setting Route 8 Cover Middle false 0 false false false false
 
 -- ---- Done and Refused come only where the source said that the input is at its end
 

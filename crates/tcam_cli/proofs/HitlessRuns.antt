@@ -13,6 +13,7 @@ use Rattle.rule_model.specs.RuleSet.{answer}
 use Rattle.replay.specs.declared.Act.{Act}
 use Rattle.replay.specs.declared.Act.TheVariants.{Command, Ask, All, Probe, Packet, Commit, Trial, Crash}
 use Rattle.script_runs.specs.Script.{Whole, acts_of}
+use Rattle.report_lines.specs.Sizes.{sizes_by}
 use Rattle.replay.specs.Script.{Script, script_kind, script_of}
 use Rattle.replay.specs.Effects.{Setting, Effect, Acts, Prints, journal_of, traced, trace_line, deed_told, drain_told, write_told, searches_of, flushed, searched_after, waiting_after, effects_of}
 use Rattle.replay.specs.Fates.{IsCrash}
@@ -406,11 +407,11 @@ hitless-job (Reads setting) slots status None left_new taken_old taken_new event
 hitless-job (Reads setting) slots status (Some old) None taken_old taken_new events is = tt
 hitless-job (Reads setting) slots status (Some old) (Some new) taken_old taken_new events is =
     let n = length old - length new in
-    let came : Script = script_so_far (reading_by setting) (take n old) in
-    let first : came.last ≡ Whole → AreFirstActs (acts_of came) (acts_of (script_of (reading_by setting) old)) =
-    λ sound. subst (λ bytes. AreFirstActs (acts_of came) (acts_of (script_of (reading_by setting) bytes))) (take-append-drop n old) (first-acts (script_kind (reading_by setting)) (take n old) (drop n old) sound) in
-    subst (λ writes. IsHitlessRun setting slots (script_of (reading_by setting) old) came status writes) (sym (ap writes_in is.1.events_is))
-    (outcome_answers setting slots (script_of (reading_by setting) old) came status is.1.effects is.1.partial first is.1.outcome)
+    let came : Script = script_so_far (sizes_by setting.large) (reading_by setting) (take n old) in
+    let first : came.last ≡ Whole → AreFirstActs (acts_of came) (acts_of (script_of (sizes_by setting.large) (reading_by setting) old)) =
+    λ sound. subst (λ bytes. AreFirstActs (acts_of came) (acts_of (script_of (sizes_by setting.large) (reading_by setting) bytes))) (take-append-drop n old) (first-acts (script_kind (sizes_by setting.large) (reading_by setting)) (take n old) (drop n old) sound) in
+    subst (λ writes. IsHitlessRun setting slots (script_of (sizes_by setting.large) (reading_by setting) old) came status writes) (sym (ap writes_in is.1.events_is))
+    (outcome_answers setting slots (script_of (sizes_by setting.large) (reading_by setting) old) came status is.1.effects is.1.partial first is.1.outcome)
 hitless-job (Makes setting seed rules batches) slots status left_old left_new taken_old taken_new events is =
     let script = made_script seed rules batches in
     let made = is.1.1 in

@@ -15,6 +15,7 @@ use Rattle.replay.specs.declared.RunFault.{RunFault}
 use Rattle.replay.specs.declared.RunFault.TheVariants as run_fault
 use Rattle.rule_store.specs.Batch.{most_pending}
 use Rattle.script_runs.specs.Script.{Whole, acts_of}
+use Rattle.report_lines.specs.Sizes.{sizes_by}
 use Rattle.replay.specs.Script.{limit_fault, pending_after}
 use Rattle.replay.specs.Effects.{Setting, Effect, events_in, printed}
 use Rattle.replay.specs.Run.{Progress, ending, start}
@@ -56,7 +57,7 @@ room : (come : ℕ) → come < most_pending → nat_le most_pending come ≡ fal
 room come few = false_from_ne_true _ (λ over. let least = leb-true most_pending come over in omega (arith, least, few))
 
 pub made-room : (most : ℕ) (command : Made) (left : List Made) (come probes : ℕ) → AreBatches most come (command ∷ left) → most ≤ most_pending
-    → limit_fault (made_act command) come probes ≡ None
+    → limit_fault most_pending (made_act command) come probes ≡ None
 made-room most (made.Change change) left come probes are few =
     let one = are.0 in
     ap (λ full. elim full [ true ↦ Some (codes "batch full") | false ↦ None ]) (room come (omega (arith, one, few)))
@@ -67,10 +68,10 @@ made-pending most (made.Change change) left come are = are.1
 made-pending most made.Commit left come are = are
 
 -- so an act is carried out, or fails for another cause
-pub made-fits : (most : ℕ) (maker left : List Made) (command : Made) (act : Act) (come probes : ℕ) (answer : Result (Unit {0}) ActFault) → maker ≡ command ∷ left → act ≡ made_act command
-    → AreBatches most come maker → most ≤ most_pending → limit_text answer ≡ limit_fault act come probes → limit_text answer ≡ None
-made-fits most maker left command act come probes answer next is are few limit =
-    limit ∙ ap (λ act. limit_fault act come probes) is ∙ made-room most command left come probes (subst (AreBatches most come) next are) few
+pub made-fits : (most : ℕ) (maker left : List Made) (command : Made) (act : Act) (come probes : ℕ) (answer : Result (Unit {0}) ActFault) (large : Bool) → maker ≡ command ∷ left → act ≡ made_act command
+    → AreBatches most come maker → most ≤ most_pending → large ≡ false → limit_text answer ≡ limit_fault (sizes_by large).commands act come probes → limit_text answer ≡ None
+made-fits most maker left command act come probes answer large next is are few usual limit =
+    limit ∙ ap (λ b. limit_fault (sizes_by b).commands act come probes) usual ∙ ap (λ act. limit_fault most_pending act come probes) is ∙ made-room most command left come probes (subst (AreBatches most come) next are) few
 
 -- ---- the commands so far are carried out
 

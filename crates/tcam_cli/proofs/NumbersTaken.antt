@@ -3,7 +3,7 @@ use Rattle.std.proofs.Common.{◌≡◌, ◌∙◌, ◌&&◌, ℕ, Bool, cond, t
 use Rattle.std.specs.Prelude.{fold}
 use Rattle.std.specs.List.{list_any}
 use Rattle.std.proofs.lemmas.List.Sums.{fold-append}
-use Rattle.slot_order.specs.Order.{script_slots}
+use Rattle.slot_order.specs.Order.{most_slots, script_slots}
 use Rattle.clap.specs.ValueTests.{is_unsigned_in}
 use Rattle.clap.specs.Takes.{is_given}
 use Rattle.clap.specs.Walk.{Row, Rule, Text, nothing_held, rows_after, with_default}
@@ -11,11 +11,11 @@ use Rattle.clap.specs.Simple.{Shape, argument_words, built, filled, help_rule, s
 use Rattle.clap.specs.Faults.{fault_of, level_fault}
 use Rattle.report_lines.specs.declared.Family.{Family}
 use Rattle.report_lines.specs.declared.Family.TheVariants.{Route, Acl, Route6, Acl6}
-use Rattle.option_words.specs.Options.{is_traced, number_of, number_position, placed_by, placement_option, ranges_option, slots_option, text_of, trace_flag}
-use Rattle.tcam_cli.specs.CommandLine.{acl_app, depth_option, gen_app, job_at, job_of_rows, job_of_subcommand, made_at, mode_wanted, route_app, script_by, tcam_app, tcam_top, json_flag, names_flag, removals_option, verify_app, is_json, is_named, parted_by}
-use Rattle.tcam_cli.specs.Asked.{job_by, tested_job, tested_job_of_rows, tested_made, tested_script}
+use Rattle.option_words.specs.Options.{is_large, is_traced, large_flag, number_of, number_position, placed_by, placement_option, ranges_option, slots_option, text_of, trace_flag}
+use Rattle.tcam_cli.specs.CommandLine.{acl_app, depth_option, gen_app, job_at, job_by, job_of_rows, job_of_subcommand, made_at, mode_wanted, route_app, script_by, tcam_app, tcam_top, json_flag, names_flag, removals_option, verify_app, is_json, is_named, parted_by, slots_by}
+use Rattle.tcam_cli.specs.Asked.{tested_job, tested_job_of_rows, tested_made, tested_script}
 use Rattle.tcam_cli.specs.Headline.{Job}
-use Rattle.option_words.proofs.Defaults.{AreOthers, all-behind, has-still, keep-defaults, others-keep, script-slots}
+use Rattle.option_words.proofs.Defaults.{AreOthers, all-behind, has-still, keep-defaults, others-keep}
 use Rattle.option_words.proofs.ArgumentRows.{AllKeep, Good, HasNumber, Keeps, apart-keeps, number-given, numbered-default, numbered-keep, or_no, position, position-keeps, slots-default, slots-keep, slots_id}
 use Rattle.option_words.proofs.TakenRows.{IsTaken, built-gives, level-taken}
 
@@ -34,15 +34,15 @@ depth-keep = numbered-keep depth_id 0 15 (codes "0") refl
 
 -- ---- the jobs by tests that pass
 
--- what a script is asked for by two tests
-abbrev read_by : Family → List Row → Bool → Bool → Job
-read_by family rows slots depth =
-    job_by (cond slots (Some (number_of slots_id rows)) None) (λ s.
-    job_by (cond depth (Some (number_of depth_id rows)) None) (λ d. job_at family s (mode_wanted family rows) (placed_by rows) (is_traced rows) d (is_json rows) (is_named rows) (parted_by rows)))
+-- what a script is asked for by the test of its depth
+abbrev read_by : Family → List Row → Bool → Job
+read_by family rows depth =
+    job_by (slots_by rows) (λ s.
+    job_by (cond depth (Some (number_of depth_id rows)) None) (λ d.
+    job_at family s (mode_wanted family rows) (placed_by rows) (is_traced rows) d (is_json rows) (is_named rows) (parted_by rows) (is_large rows)))
 
-script-tested : (family : Family) (rows : List Row) → HasNumber slots_id 1 script_slots rows → HasNumber depth_id 0 15 rows → script_by family rows ≡ tested_script family rows
-script-tested family rows slots depth =
-    sym (ap (λ b. read_by family rows b (is_unsigned_in 0 15 (text_of depth_id rows))) slots ∙ ap (λ b. read_by family rows true b) depth)
+script-tested : (family : Family) (rows : List Row) → HasNumber depth_id 0 15 rows → script_by family rows ≡ tested_script family rows
+script-tested family rows depth = sym (ap (read_by family rows) depth)
 
 abbrev seed_id : Text
 seed_id = codes "seed"
@@ -73,21 +73,21 @@ made-tested rows slots seed rules batches =
 
 -- what stands behind --slots
 abbrev route_rest : List Rule
-route_rest = filled placement_option ∷ filled trace_flag ∷ filled depth_option ∷ filled json_flag ∷ filled names_flag ∷ filled removals_option ∷ filled help_rule ∷ []
+route_rest = filled placement_option ∷ filled trace_flag ∷ filled depth_option ∷ filled json_flag ∷ filled names_flag ∷ filled removals_option ∷ filled large_flag ∷ filled help_rule ∷ []
 
 abbrev list_rest : List Rule
-list_rest = filled ranges_option ∷ filled placement_option ∷ filled trace_flag ∷ filled depth_option ∷ filled json_flag ∷ filled names_flag ∷ filled removals_option ∷ filled help_rule ∷ []
+list_rest = filled ranges_option ∷ filled placement_option ∷ filled trace_flag ∷ filled depth_option ∷ filled json_flag ∷ filled names_flag ∷ filled removals_option ∷ filled large_flag ∷ filled help_rule ∷ []
 
 -- what stands behind --depth
 abbrev script_back : List Rule
-script_back = filled json_flag ∷ filled names_flag ∷ filled removals_option ∷ filled help_rule ∷ []
+script_back = filled json_flag ∷ filled names_flag ∷ filled removals_option ∷ filled large_flag ∷ filled help_rule ∷ []
 
 -- what stands before --depth
 abbrev route_front : List Rule
-route_front = filled slots_option ∷ filled placement_option ∷ filled trace_flag ∷ []
+route_front = filled (slots_option most_slots) ∷ filled placement_option ∷ filled trace_flag ∷ []
 
 abbrev list_front : List Rule
-list_front = filled slots_option ∷ filled ranges_option ∷ filled placement_option ∷ filled trace_flag ∷ []
+list_front = filled (slots_option most_slots) ∷ filled ranges_option ∷ filled placement_option ∷ filled trace_flag ∷ []
 
 module _ (s : Shape) (front back : List Rule) (others : AreOthers depth_id front) (others_back : AreOthers depth_id back) (are : s.rules ≡ front ++ filled depth_option ∷ back) (once : s.args_override_self ≡ false) (words : List Text)
     (none : level_fault s [] nothing_held words false [] ≡ []) where
@@ -112,7 +112,7 @@ made_rest = filled ranges_option ∷ filled placement_option ∷ filled help_rul
 
 abbrev gen_rules : List Rule
 gen_rules =
-    position 1 seed_id 0 2147483647 ∷ position 2 rules_id 1 256 ∷ position 3 batches_id 1 64 ∷ filled slots_option ∷ made_rest
+    position 1 seed_id 0 2147483647 ∷ position 2 rules_id 1 256 ∷ position 3 batches_id 1 64 ∷ filled (slots_option script_slots) ∷ made_rest
 
 not-false : (a : Bool) → not a ≡ false → a ≡ true
 not-false true is = refl
@@ -151,12 +151,12 @@ module _ (s : Shape) (are : s.rules ≡ gen_rules) (once : s.args_override_self 
   unfolding slots_option ranges_option placement_option number_position
   gen-made =
       let seed : AllKeep (Good seed_id 0 2147483647) gen_rules =
-      (position-keeps 1 seed_id 0 2147483647, others-keep _ _ _ (position 2 rules_id 1 256 ∷ position 3 batches_id 1 64 ∷ filled slots_option ∷ made_rest) refl) in
+      (position-keeps 1 seed_id 0 2147483647, others-keep _ _ _ (position 2 rules_id 1 256 ∷ position 3 batches_id 1 64 ∷ filled (slots_option script_slots) ∷ made_rest) refl) in
       let rules : AllKeep (Good rules_id 1 256) gen_rules = (
         apart-keeps _ _ _ (position 1 seed_id 0 2147483647) refl,
         (
           position-keeps 2 rules_id 1 256,
-          others-keep _ _ _ (position 3 batches_id 1 64 ∷ filled slots_option ∷ made_rest) refl,
+          others-keep _ _ _ (position 3 batches_id 1 64 ∷ filled (slots_option script_slots) ∷ made_rest) refl,
         ),
       ) in
       let batches : AllKeep (Good batches_id 1 64) gen_rules = (
@@ -165,7 +165,7 @@ module _ (s : Shape) (are : s.rules ≡ gen_rules) (once : s.args_override_self 
           apart-keeps _ _ _ (position 2 rules_id 1 256) refl,
           (
             position-keeps 3 batches_id 1 64,
-            others-keep _ _ _ (filled slots_option ∷ made_rest) refl,
+            others-keep _ _ _ (filled (slots_option script_slots) ∷ made_rest) refl,
           ),
         ),
       ) in
@@ -179,24 +179,24 @@ module _ (s : Shape) (are : s.rules ≡ gen_rules) (once : s.args_override_self 
       let good = keep-defaults (Good slots_id 1 script_slots) front ahead taken.rows taken.good in
       let has : HasNumber slots_id 1 script_slots (rows_after s.rules [] words) =
       subst (HasNumber slots_id 1 script_slots) (sym (taken.after ∙ ap (fold with_default taken.rows) are))
-      (has-still slots_id 1 script_slots made_rest refl (with_default before (filled slots_option)) (slots-default before good).0) in
+      (has-still slots_id 1 script_slots made_rest refl (with_default before (filled (slots_option script_slots))) (slots-default before good).0) in
       made-tested (rows_after s.rules [] words) has (gen-number seed_id 0 2147483647 seed given.seed) (gen-number rules_id 1 256 rules given.rules) (gen-number batches_id 1 64 batches given.batches)
 
 -- ---- the program
 
 -- where clap finds no fault, the tests of the numbers pass
 pub tested : (words : List Text) → fault_of tcam_app words ≡ [] → (o : Option (Text × List Row)) → subcommand_of tcam_app words ≡ o → job_of_subcommand o ≡ tested_job o
-unfolding tcam_app tcam_top route_app acl_app gen_app slots_option ranges_option placement_option trace_flag json_flag names_flag removals_option depth_option number_position verify_app
+unfolding tcam_app tcam_top route_app acl_app gen_app slots_option ranges_option placement_option trace_flag large_flag json_flag names_flag removals_option depth_option number_position verify_app
 tested words none None are = refl
 tested words none (Some (name, rows)) are =
     built-gives (λ name rows. job_of_rows name rows ≡ tested_job_of_rows name rows) (built tcam_app) (
-      λ words none. script-tested Route (rows_after (filled slots_option ∷ route_rest) [] words) (script-slots _ route_rest refl refl refl words none) (script-depth _ route_front script_back refl refl refl refl words none),
+      λ words none. script-tested Route (rows_after (filled (slots_option most_slots) ∷ route_rest) [] words) (script-depth _ route_front script_back refl refl refl refl words none),
       (
-        λ words none. script-tested Acl (rows_after (filled slots_option ∷ list_rest) [] words) (script-slots _ list_rest refl refl refl words none) (script-depth _ list_front script_back refl refl refl refl words none),
+        λ words none. script-tested Acl (rows_after (filled (slots_option most_slots) ∷ list_rest) [] words) (script-depth _ list_front script_back refl refl refl refl words none),
         (
-          λ words none. script-tested Route6 (rows_after (filled slots_option ∷ route_rest) [] words) (script-slots _ route_rest refl refl refl words none) (script-depth _ route_front script_back refl refl refl refl words none),
+          λ words none. script-tested Route6 (rows_after (filled (slots_option most_slots) ∷ route_rest) [] words) (script-depth _ route_front script_back refl refl refl refl words none),
           (
-            λ words none. script-tested Acl6 (rows_after (filled slots_option ∷ list_rest) [] words) (script-slots _ list_rest refl refl refl words none) (script-depth _ list_front script_back refl refl refl refl words none),
+            λ words none. script-tested Acl6 (rows_after (filled (slots_option most_slots) ∷ list_rest) [] words) (script-depth _ list_front script_back refl refl refl refl words none),
             (λ words none. gen-made _ refl refl words none, (λ words none. refl, tt)),
           ),
         ),

@@ -24,7 +24,7 @@ use Rattle.tcam_cli.specs.CommandLine.{script_setting}
 use Rattle.tcam_cli.specs.Headline.{Reads, IsCarriedOut}
 
 abbrev setting : Setting
-setting = script_setting Route 8 Cover Middle false 0 false false false
+setting = script_setting Route 8 Cover Middle false 0 false false false false
 
 -- the addition of a route, pending
 abbrev pending : Progress

@@ -8,12 +8,13 @@ use Rattle.tcam_device.specs.State.{State, Shows, state_after}
 use Rattle.tcam_device.specs.Hitless.{ShowsOldOrNew}
 use Rattle.batch_order.specs.declared.Placement.TheVariants.{Middle}
 use Rattle.report_lines.specs.declared.Family.TheVariants.{Route, Acl}
+use Rattle.report_lines.specs.Sizes.{usual_sizes}
 use Rattle.replay.specs.Script.{script_of}
 use Rattle.tcam_cli.specs.Readings.{reading}
 use Rattle.tcam_cli.specs.AllTheWay.{Led, Stands, TakenBack, rules_in, sets_of, ShowsSetOrNext, AnswersAllTheWay}
 
 abbrev sets : ℕ → List ℕ → List (List Rule)
-sets slots bytes = map rules_in (sets_of (record { slots = slots; mode = Cover; placement = Middle; family = Route; trace = false; depth = 0; json = false; names = false; parts = false }) [] (script_of (reading Route) bytes))
+sets slots bytes = map rules_in (sets_of (record { slots = slots; mode = Cover; placement = Middle; family = Route; trace = false; depth = 0; json = false; names = false; parts = false; large = false }) [] (script_of usual_sizes (reading Route) bytes))
 
 abbrev two_routes : List ℕ
 two_routes = codes "route add 10.0.0.0/8 7" ++ 10 ∷ codes "route add 11.0.0.0/8 7" ++ 10 ∷ codes "commit" ++ 10 ∷ []
@@ -45,7 +46,7 @@ refused = refl
 
 -- a line of an access list takes 900 entries at most
 abbrev lists : ℕ → List ℕ → List (List Rule)
-lists slots bytes = map rules_in (sets_of (record { slots = slots; mode = Cover; placement = Middle; family = Acl; trace = false; depth = 0; json = false; names = false; parts = false }) [] (script_of (reading Acl) bytes))
+lists slots bytes = map rules_in (sets_of (record { slots = slots; mode = Cover; placement = Middle; family = Acl; trace = false; depth = 0; json = false; names = false; parts = false; large = false }) [] (script_of usual_sizes (reading Acl) bytes))
 
 six : map length (lists 6 (codes "acl add 10 permit any any any any 1024-65535" ++ 10 ∷ codes "commit")) ≡ 0 ∷ 1 ∷ []
 six = refl

@@ -5,6 +5,7 @@ use Rattle.script_runs.specs.declared.Status.TheVariants.{Done, Refused, Script 
 use Rattle.script_runs.specs.Rounds.{EndsRun}
 use Rattle.script_runs.proofs.Rounds.{EndsTold, TakesSome, matches}
 use Rattle.tcam_device.specs.declared.Action.{Action}
+use Rattle.report_lines.specs.Sizes.{sizes_by}
 use Rattle.replay.specs.Script.{script_of}
 use Rattle.replay.specs.Effects.{Setting}
 use Rattle.tcam_cli.specs.Headline.{IsCarriedOut, IsDecided, MayEnd, Reads, decided, run_kind}
@@ -22,7 +23,7 @@ carried setting slots status (Some old) (Some new) events taken_old taken_new ta
 
 decided-by : (setting : Setting) (slots : ℕ) (status : Status) (left_old left_new : Option (List ℕ)) (events : List Action) (taken_old taken_new : Option (List ℕ)) → TakesSome left_old left_new
     → EndsTold (run_kind setting slots) status left_old left_new events taken_old taken_new
-    → ((left taken now : List ℕ) → (e : EndsRun (run_kind setting slots) left taken now status events taken_old taken_new) → (backs : List Bool) × (decided setting backs (script_of (reading_by setting) left) ≡ status))
+    → ((left taken now : List ℕ) → (e : EndsRun (run_kind setting slots) left taken now status events taken_old taken_new) → (backs : List Bool) × (decided setting backs (script_of (sizes_by setting.large) (reading_by setting) left) ≡ status))
     → IsDecided status (Reads setting) left_old
 decided-by setting slots status None left_new events taken_old taken_new takes ends so = ([], tt)
 decided-by setting slots status (Some old) None events taken_old taken_new takes ends so = absurd takes.1

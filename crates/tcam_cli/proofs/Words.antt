@@ -11,7 +11,7 @@ use Rattle.clap.proofs.OnLiterals.{clap_on_literals}
 use Rattle.tcam_cli.specs.declared.own_texts.Topic.{Topic}
 use Rattle.tcam_cli.specs.declared.command_line.Asked.{Asked}
 use Rattle.option_words.specs.declared.WordsFault.{WordsFault}
-use Rattle.option_words.specs.Options.{number_position, placement_option, ranges_option, slots_option, trace_flag}
+use Rattle.option_words.specs.Options.{large_flag, number_position, placement_option, ranges_option, slots_option, trace_flag}
 use Rattle.tcam_cli.specs.CommandLine.{job_by_faults, job_of, job_of_fault, acl_app, depth_option, gen_app, route_app, tcam_app, tcam_top, json_flag, names_flag, removals_option, verify_app, topic_in}
 use Rattle.tcam_cli.specs.Asked.{asked_by, tested_job}
 use Rattle.tcam_cli.specs.Headline.{Job}
@@ -19,11 +19,11 @@ use Rattle.tcam_cli.proofs.NumbersTaken.{tested}
 use Rattle.option_words.proofs.ClearFaults.{Clear, built-clear}
 
 pub simple_and_free : is_simple_and_free tcam_app ≡ true
-unfolding clap_on_literals tcam_app tcam_top route_app acl_app gen_app slots_option ranges_option placement_option trace_flag json_flag names_flag removals_option depth_option number_position verify_app
+unfolding clap_on_literals tcam_app tcam_top route_app acl_app gen_app slots_option ranges_option placement_option trace_flag large_flag json_flag names_flag removals_option depth_option number_position verify_app
 simple_and_free = refl
 
 pub simple : is_simple tcam_app ≡ true
-unfolding clap_on_literals tcam_app tcam_top route_app acl_app gen_app slots_option ranges_option placement_option trace_flag json_flag names_flag removals_option depth_option number_position verify_app
+unfolding clap_on_literals tcam_app tcam_top route_app acl_app gen_app slots_option ranges_option placement_option trace_flag large_flag json_flag names_flag removals_option depth_option number_position verify_app
 simple = refl
 
 -- the job by such kinds is that of the kind that came
@@ -37,7 +37,7 @@ fault_job topic (a ∷ b ∷ ks) sub k clear (inr (inl e)) = sym (ap (job_of_fau
 fault_job topic (a ∷ b ∷ ks) sub k clear (inr (inr more)) = absurd (subst (IsAmong k) clear.2 more)
 
 tcam-clear : (words : List Text) → Clear (fault_of tcam_app words)
-unfolding tcam_app tcam_top route_app acl_app gen_app slots_option ranges_option placement_option trace_flag json_flag names_flag removals_option depth_option number_position verify_app
+unfolding tcam_app tcam_top route_app acl_app gen_app slots_option ranges_option placement_option trace_flag large_flag json_flag names_flag removals_option depth_option number_position verify_app
 tcam-clear words = built-clear (built tcam_app) nothing_held (argument_words tcam_app words) refl (refl, (refl, (refl, (refl, (refl, (refl, tt))))))
 
 pub taken : (a : App) (words : List Text) (m : ArgMatches) → a ≡ tcam_app → fault_of a words ≡ [] → subcommand_rows_of m ≡ subcommand_of a words

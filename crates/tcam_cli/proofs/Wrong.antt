@@ -11,7 +11,7 @@ use Rattle.script_runs.specs.declared.Status.TheVariants.{Done, Refused, Script 
 use Rattle.tcam_cli.specs.Headline.{NoJob, Reads, Makes, IsCarriedOut, MayEnd}
 
 abbrev setting : Setting
-setting = record { slots = 8; mode = Cover; placement = Middle; family = Route; trace = false; depth = 0; json = false; names = false; parts = false }
+setting = record { slots = 8; mode = Cover; placement = Middle; family = Route; trace = false; depth = 0; json = false; names = false; parts = false; large = false }
 
 -- a line at fault was taken, and then a read failed: nothing is printed, status 3
 passed-over : IsCarriedOut (Reads setting) 8 ReadFault (Some (codes "frob" ++ 10 ∷ codes "more")) (Some (codes "more")) (Some []) (Some []) [] → ⊥

@@ -12,6 +12,7 @@ use Rattle.replay.specs.declared.Act.TheVariants.{Command, Ask, All, Probe, Pack
 use Rattle.settled_changes.specs.declared.requested.Requested.{Requested}
 use Rattle.settled_changes.specs.declared.requested.Requested.TheVariants.{Nothing}
 use Rattle.replay.specs.Fates.{IsCrash}
+use Rattle.report_lines.specs.Sizes.{sizes_by}
 use Rattle.replay.specs.Script.{Script, script_of}
 use Rattle.replay.specs.Effects.{Setting}
 use Rattle.script_runs.specs.declared.Status.{Status}
@@ -156,8 +157,8 @@ IsHitlessJob NoJob device_slots status left_old left_new journal = journal ≡ [
 IsHitlessJob (Tells own) device_slots status left_old left_new journal = journal ≡ []
 IsHitlessJob (Reads setting) device_slots status left_old left_new journal =
     IfSome left_old (λ old. IfSome left_new (λ new.
-    IsHitlessRun setting device_slots (script_of (reading_by setting) old)
-    (script_so_far (reading_by setting) (take (length old - length new) old)) status journal))
+    IsHitlessRun setting device_slots (script_of (sizes_by setting.large) (reading_by setting) old)
+    (script_so_far (sizes_by setting.large) (reading_by setting) (take (length old - length new) old)) status journal))
 IsHitlessJob (Makes setting seed rules batches) device_slots status left_old left_new journal =
     IsHitlessRun setting device_slots (made_script seed rules batches) (made_script seed rules batches) status journal
 IsHitlessJob Verifies device_slots status left_old left_new journal =

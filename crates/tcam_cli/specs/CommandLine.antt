@@ -1,5 +1,5 @@
 -- The command lines, by the declaration that clap is given, and what each asks for.
-use Rattle.std.specs.Prelude.{ℕ, Bool, Option, Some, None, option_and_then, slice_get, List, [], ◌∷◌, true, false, codes, if◌then◌else◌}
+use Rattle.std.specs.Prelude.{ℕ, Bool, ◌&&◌, Option, Some, None, option_and_then, slice_get, List, [], ◌∷◌, true, false, codes, if◌then◌else◌}
 use Rattle.std.specs.Str.{bytes_eq}
 use Rattle.clap.specs.Walk.{Rule, Row, Text}
 use Rattle.clap.specs.Simple.{App, new_app, new_rule, on_top, with_rule, with_subcommand, subcommand_of}
@@ -9,7 +9,9 @@ use Rattle.clap.specs.declared.error.kind.ErrorKind.{ErrorKind}
 use Rattle.clap.specs.declared.error.kind.ErrorKind.TheVariants as kind
 use Rattle.clap.specs.declared.builder.action.ArgAction.TheVariants.{Set, SetTrue}
 use Rattle.clap.specs.declared.builder.value_parser.ValueParser.TheVariants.{Unsigned}
-use Rattle.option_words.specs.Options.{text_of, number_of, has_text, is_traced, mode_in, placed_by, slots_option, ranges_option, placement_option, trace_flag, number_position}
+use Rattle.option_words.specs.Options.{text_of, number_of, has_text, is_traced, mode_in, placed_by, slots_option, ranges_option, placement_option, trace_flag, number_position, large_flag, is_large, slots_given}
+use Rattle.slot_order.specs.Order.{most_slots, script_slots}
+use Rattle.report_lines.specs.Sizes.{sizes_by}
 use Rattle.rule_store.specs.declared.Mode.{Mode}
 use Rattle.rule_store.specs.declared.Mode.TheVariants.{Cover}
 use Rattle.batch_order.specs.declared.Placement.{Placement}
@@ -23,10 +25,11 @@ use Rattle.tcam_cli.specs.OwnTexts.{HelpOn, Version}
 
 -- a script of a family over so many slots in use, port ranges tested as the mode says, each insertion aiming as the
 -- placement says, with a trace or without, with the words of probes searched after so many further writes, with a report in
--- JSON or without, with a trace by names or by the words of the device, and with removals first where they may or last
-abbrev pub script_setting : Family → ℕ → Mode → Placement → Bool → ℕ → Bool → Bool → Bool → Setting
-script_setting family slots mode placement trace depth json names parts =
-    record { slots = slots; mode = mode; placement = placement; family = family; trace = trace; depth = depth; json = json; names = names; parts = parts }
+-- JSON or without, with a trace by names or by the words of the device, with removals first where they may or last, and with
+-- tables, batches and scripts of the large sizes or of the usual ones
+abbrev pub script_setting : Family → ℕ → Mode → Placement → Bool → ℕ → Bool → Bool → Bool → Bool → Setting
+script_setting family slots mode placement trace depth json names parts large =
+    record { slots = slots; mode = mode; placement = placement; family = family; trace = trace; depth = depth; json = json; names = names; parts = parts; large = large }
 
 -- --depth, a number from 0 to 15, by default 0
 unfoldable pub depth_option : Rule
@@ -56,20 +59,20 @@ removals_option = record (new_rule (codes "removals")) {
 -- a subcommand for route scripts, by its name
 unfoldable pub route_app : Text → App
 route_app name =
-    with_rule (with_rule (with_rule (with_rule (with_rule (with_rule (with_rule (new_app name) slots_option) placement_option) trace_flag) depth_option) json_flag)
-    names_flag) removals_option
+    with_rule (with_rule (with_rule (with_rule (with_rule (with_rule (with_rule (with_rule (new_app name) (slots_option most_slots)) placement_option) trace_flag)
+    depth_option) json_flag) names_flag) removals_option) large_flag
 
 -- a subcommand for access-list scripts, by its name
 unfoldable pub acl_app : Text → App
 acl_app name =
-    with_rule (with_rule (with_rule (with_rule (with_rule (with_rule (with_rule (with_rule (new_app name) slots_option) ranges_option) placement_option)
-    trace_flag) depth_option) json_flag) names_flag) removals_option
+    with_rule (with_rule (with_rule (with_rule (with_rule (with_rule (with_rule (with_rule (with_rule (new_app name) (slots_option most_slots)) ranges_option) placement_option)
+    trace_flag) depth_option) json_flag) names_flag) removals_option) large_flag
 
 -- the subcommand for made commands: SEED, RULES and BATCHES
 unfoldable pub gen_app : App
 gen_app =
     with_rule (with_rule (with_rule (with_rule (with_rule (with_rule (new_app (codes "gen")) (number_position (codes "seed") 0 2147483647))
-    (number_position (codes "rules") 1 256)) (number_position (codes "batches") 1 64)) slots_option) ranges_option) placement_option
+    (number_position (codes "rules") 1 256)) (number_position (codes "batches") 1 64)) (slots_option script_slots)) ranges_option) placement_option
 
 -- the subcommand for the check of a trace
 unfoldable pub verify_app : App
@@ -112,26 +115,35 @@ mode_wanted Acl rows = mode_in (text_of (codes "ranges") rows)
 mode_wanted Route6 rows = Some Cover
 mode_wanted Acl6 rows = mode_in (text_of (codes "ranges") rows)
 
+-- what is asked for by a number, if there is one
+abbrev pub job_by : Option ℕ → (ℕ → Job) → Job
+job_by None job = NoJob
+job_by (Some number) job = job number
+
 -- a script of a family over so many slots, where the words of --ranges, --placement and --removals name a mode, a placement
--- and when removals go
-abbrev pub job_at : Family → ℕ → Option Mode → Option Placement → Bool → ℕ → Bool → Bool → Option Bool → Job
-job_at family slots None placement trace depth json names parts = NoJob
-job_at family slots (Some mode) None trace depth json names parts = NoJob
-job_at family slots (Some mode) (Some placement) trace depth json names None = NoJob
-job_at family slots (Some mode) (Some placement) trace depth json names (Some parts) =
-    Reads (script_setting family slots mode placement trace depth json names parts)
+-- and when removals go. A report in JSON is a trace, which has the usual sizes: so there is none of large ones.
+abbrev pub job_at : Family → ℕ → Option Mode → Option Placement → Bool → ℕ → Bool → Bool → Option Bool → Bool → Job
+job_at family slots None placement trace depth json names parts large = NoJob
+job_at family slots (Some mode) None trace depth json names parts large = NoJob
+job_at family slots (Some mode) (Some placement) trace depth json names None large = NoJob
+job_at family slots (Some mode) (Some placement) trace depth json names (Some parts) large =
+    if json && large then NoJob else Reads (script_setting family slots mode placement trace depth json names parts large)
 
 -- the commands of a seed, over so many slots, where these words name them: so many batches of so many rules
 abbrev pub made_at : ℕ → Option Mode → Option Placement → ℕ → ℕ → ℕ → Job
 made_at slots None placement seed rules batches = NoJob
 made_at slots (Some mode) None seed rules batches = NoJob
-made_at slots (Some mode) (Some placement) seed rules batches = Makes (script_setting Acl slots mode placement false 0 false false false) seed rules batches
+made_at slots (Some mode) (Some placement) seed rules batches = Makes (script_setting Acl slots mode placement false 0 false false false false) seed rules batches
+
+-- the number of slots that was given, where it is one of the sizes that are wanted
+abbrev pub slots_by : List Row → Option ℕ
+slots_by rows = slots_given (sizes_by (is_large rows)).slots rows
 
 -- a script of a family, by its arguments
 abbrev pub script_by : Family → List Row → Job
 script_by family rows =
-    job_at family (number_of (codes "slots") rows) (mode_wanted family rows) (placed_by rows) (is_traced rows) (number_of (codes "depth") rows)
-    (is_json rows) (is_named rows) (parted_by rows)
+    job_by (slots_by rows) (λ slots.
+    job_at family slots (mode_wanted family rows) (placed_by rows) (is_traced rows) (number_of (codes "depth") rows) (is_json rows) (is_named rows) (parted_by rows) (is_large rows))
 
 -- what a subcommand and its arguments ask for: a script of its family over so many slots, made commands, or the check of a
 -- trace

@@ -25,6 +25,8 @@ use Rattle.settled_changes.specs.declared.requested.Requested.{Requested}
 use Rattle.settled_changes.specs.declared.requested.Requested.TheVariants.{Nothing}
 use Rattle.settled_changes.specs.Requested.{changes_in}
 use Rattle.replay.specs.Script.{Script, Reading, script_kind, script_of}
+use Rattle.report_lines.specs.declared.sizes.Sizes.{Sizes}
+use Rattle.report_lines.specs.Sizes.{sizes_by}
 use Rattle.report_lines.specs.Text.{usage_line, fault_line}
 use Rattle.replay.specs.Text.{yes_line, no_line}
 use Rattle.replay.specs.Effects.{Setting, Effect, Acts, Prints, events_in, printed}
@@ -46,6 +48,14 @@ pub data Job : Type 0 where
   Makes : (setting : Setting) (seed rules batches : ℕ) → Job
   Verifies : Job
 
+-- how many slots of its device a job uses
+abbrev pub wanted_slots : Job → ℕ
+wanted_slots NoJob = 0
+wanted_slots (Tells own) = 0
+wanted_slots (Reads setting) = setting.slots
+wanted_slots (Makes setting seed rules batches) = setting.slots
+wanted_slots Verifies = 0
+
 -- The last line that a script's end gives: the end line, or the line that names the fault.
 abbrev pub closing_line : Setting → Progress → ScriptEnd → List ℕ
 closing_line setting progress Whole = ending setting progress
@@ -59,7 +69,7 @@ status_of progress end = status_at progress.refused end
 abbrev pub run_kind : Setting → ℕ → RunKind Act (ℕ × ℕ) Progress Effect Write (List Action)
 run_kind setting device_slots =
     record {
-      scripts = script_kind (reading_by setting);
+      scripts = script_kind (sizes_by setting.large) (reading_by setting);
       counted = λ progress. (changes_in progress.batch progress.asked, length progress.probes);
       start = start device_slots;
       Step = StepsBy setting;
@@ -79,8 +89,8 @@ abbrev pub IsComplete : Setting → ℕ → Script → Status → List Effect �
 IsComplete setting device_slots script status effects = outcomes.IsComplete (run_kind setting device_slots) script status effects
 
 -- what some first bytes of a script are so far: the acts of their whole lines, and a fault where they have one
-abbrev pub script_so_far : Reading → List ℕ → Script
-script_so_far reading bytes = scripts.script_so_far (script_kind reading) bytes
+abbrev pub script_so_far : Sizes → Reading → List ℕ → Script
+script_so_far sizes reading bytes = scripts.script_so_far (script_kind sizes reading) bytes
 
 -- what a run did by its status: its effects and part of a further line; came is what the bytes taken are of the script
 abbrev pub IsOutcome : Setting → ℕ → Script → Script → Status → List Effect → List ℕ → Type 0
@@ -145,8 +155,8 @@ IsCarriedOut (Tells own) device_slots status left_old left_new taken_old taken_n
 IsCarriedOut (Reads setting) device_slots status left_old left_new taken_old taken_new events =
     IfSome left_old (λ old. IfSome left_new (λ new.
     TakesFrom status old new
-    × MatchesOutcome setting device_slots (script_of (reading_by setting) old)
-    (script_so_far (reading_by setting) (take (length old - length new) old)) status events taken_old taken_new))
+    × MatchesOutcome setting device_slots (script_of (sizes_by setting.large) (reading_by setting) old)
+    (script_so_far (sizes_by setting.large) (reading_by setting) (take (length old - length new) old)) status events taken_old taken_new))
 IsCarriedOut (Makes setting seed rules batches) device_slots status left_old left_new taken_old taken_new events =
     (left_new ≡ left_old) × MatchesMade setting device_slots (made_script seed rules batches) status events taken_old taken_new
 IsCarriedOut Verifies device_slots status left_old left_new taken_old taken_new events =
@@ -169,7 +179,7 @@ decided setting backs script =
 abbrev pub decision : Job → List Bool → Option (List ℕ) → Option Status
 decision NoJob backs left = Some Usage
 decision (Tells own) backs left = Some Done
-decision (Reads setting) backs left = option_map (λ bytes. decided setting backs (script_of (reading_by setting) bytes)) left
+decision (Reads setting) backs left = option_map (λ bytes. decided setting backs (script_of (sizes_by setting.large) (reading_by setting) bytes)) left
 decision (Makes setting seed rules batches) backs left = Some (decided setting backs (made_script seed rules batches))
 decision Verifies backs left = None
 

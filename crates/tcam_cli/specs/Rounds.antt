@@ -43,4 +43,4 @@ pub record IsBetweenLines (held : HeldBytes) (run : Running) : Type 0 where
   pub idle : run.manager.held ≡ None
   pub whole : run.broken ≡ false
   pub commits : run.commits ≤ held.before
-  pub within : held.before ≤ 16777216
+  pub within : held.before ≤ 268435456

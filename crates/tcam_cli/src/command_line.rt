@@ -1,21 +1,22 @@
 //! The words of the command line, as `clap` takes them.
 
-ghost use Rattle.std.specs.Prelude.{◌≡◌, codes, Err, IfOk, IsErrOf, IfSome, IsNone, None, false, true, map, string_bytes};
+ghost use Rattle.std.specs.Prelude.{◌≡◌, ◌≤◌, codes, Err, IfOk, IsErrOf, IfSome, IsNone, None, false, true, map, string_bytes};
 ghost use Rattle.clap.specs.Words.{app_of, rule_of, rows_of, found_of, subcommand_rows_of, kind_of};
 ghost use Rattle.clap.specs.declared.builder.command.Command.TheViews.{out-Command};
 ghost use Rattle.tcam_cli.specs.CommandLine.{job_of, job_of_fault, mode_wanted, topic_in, topic_named, verify_app, acl_app, depth_option, gen_app, json_flag, names_flag, removals_in, removals_option, parted_by, route_app, tcam_app};
 ghost use Rattle.tcam_cli.specs.Asked.{IsInRange, asked_by, tested_job, tested_made, tested_script};
-ghost use Rattle.tcam_cli.specs.Headline.{NoJob};
+ghost use Rattle.tcam_cli.specs.Headline.{NoJob, wanted_slots};
 
 use crate::own_texts::Topic;
 use clap::error::ErrorKind;
 use clap::{Arg, ArgAction, ArgMatches, Command, Error};
 use option_words::{
-    WordsFault, mode_named, number_arg, number_of, placement_arg, placement_of, ranges_arg,
-    slots_arg, text_of, trace_arg,
+    WordsFault, large_arg, mode_named, number_arg, number_of, placement_arg, placement_of,
+    ranges_arg, slots_arg, text_of, trace_arg,
 };
 use replay::{Family, Mode, Placement};
-use slot_order::SCRIPT_SLOTS;
+use report_lines::sizes_by;
+use slot_order::{MOST_SLOTS, SCRIPT_SLOTS};
 use std::alloc::{AllocError, Global};
 
 /// What a command line asks for.
@@ -24,7 +25,8 @@ pub enum Asked {
     /// A script of this family from the source, with so many slots in use, 1 to 4,096, where port ranges are tested as
     /// the mode says and each insertion aims as the placement says, with a trace or without, with the words of probes
     /// searched after so many further writes, at most 15, with a report in JSON or without, with a trace by names or by the
-    /// words of the device, and with removals first where they may or last.
+    /// words of the device, with removals first where they may or last, and with the large sizes or not: with them there are
+    /// up to 1,048,576 slots, and no report in JSON.
     Script {
         family: Family,
         slots: u32,
@@ -35,6 +37,7 @@ pub enum Asked {
         json: bool,
         names: bool,
         parts: bool,
+        large: bool,
     },
     /// Commands of an access list that are made from a seed up to 2,147,483,647, 1 to 64 batches of 1 to 256 rules
     /// each, over so many slots, in this mode and by this placement, and without a trace. No source is read.
@@ -104,13 +107,14 @@ fn route_command<'a>(alloc: Global, name: &'a str) -> Result<Command<'a>, AllocE
 {
     Ok(
         Command::new(alloc, name)
-            .arg(slots_arg(alloc))?
+            .arg(slots_arg(alloc, MOST_SLOTS))?
             .arg(placement_arg(alloc))?
             .arg(trace_arg(alloc))?
             .arg(depth_arg(alloc))?
             .arg(json_arg(alloc))?
             .arg(names_arg(alloc))?
-            .arg(removals_arg(alloc))?,
+            .arg(removals_arg(alloc))?
+            .arg(large_arg(alloc))?,
     )
 }
 
@@ -121,14 +125,15 @@ fn acl_command<'a>(alloc: Global, name: &'a str) -> Result<Command<'a>, AllocErr
 {
     Ok(
         Command::new(alloc, name)
-            .arg(slots_arg(alloc))?
+            .arg(slots_arg(alloc, MOST_SLOTS))?
             .arg(ranges_arg(alloc))?
             .arg(placement_arg(alloc))?
             .arg(trace_arg(alloc))?
             .arg(depth_arg(alloc))?
             .arg(json_arg(alloc))?
             .arg(names_arg(alloc))?
-            .arg(removals_arg(alloc))?,
+            .arg(removals_arg(alloc))?
+            .arg(large_arg(alloc))?,
     )
 }
 
@@ -142,7 +147,7 @@ fn gen_command<'a>(alloc: Global) -> Result<Command<'a>, AllocError>
             .arg(number_arg(alloc, "seed", 0, 2147483647))?
             .arg(number_arg(alloc, "rules", 1, 256))?
             .arg(number_arg(alloc, "batches", 1, 64))?
-            .arg(slots_arg(alloc))?
+            .arg(slots_arg(alloc, SCRIPT_SLOTS))?
             .arg(ranges_arg(alloc))?
             .arg(placement_arg(alloc))?,
     )
@@ -195,6 +200,32 @@ pub fn read_words(alloc: Global, words: &[String]) -> Result<Asked, WordsFault>
     }
 }
 
+/// How many slots of its device what the words ask for uses, the program's name first; 0 where it uses none. It fails only for
+/// want of memory.
+pub fn slots_wanted(alloc: Global, words: &[String]) -> Result<u32, AllocError>
+    ensures wanted { IfOk result (λ slots. wanted_slots (job_of (map string_bytes words.now)) ≤ slots) }
+    ensures most { IfOk result (λ slots. slots ≤ MOST_SLOTS) }
+{
+    match read_words(alloc, words) {
+        Ok(asked) => Ok(asked_slots(asked)),
+        Err(WordsFault::Usage) => Ok(0),
+        Err(WordsFault::Memory) => Err(AllocError),
+    }
+}
+
+/// How many slots of its device what is asked for uses.
+fn asked_slots(asked: Asked) -> u32
+    ensures { result ≡ wanted_slots (asked_by asked) }
+{
+    match asked {
+        Asked::Script { slots, .. } => slots,
+        Asked::Made { slots, .. } => slots,
+        Asked::Verify => 0,
+        Asked::Help(_) => 0,
+        Asked::Version => 0,
+    }
+}
+
 /// The job of words that were taken, if they ask for one.
 fn job_of_matches(matches: &ArgMatches) -> Option<Asked>
     ensures asked { IfSome result (λ job. tested_job (subcommand_rows_of matches.now) ≡ asked_by job) }
@@ -218,16 +249,27 @@ fn job_of_script(family: Family, found: &ArgMatches) -> Option<Asked>
     ensures none { IsNone result → tested_script family (rows_of (found_of found.now)) ≡ NoJob }
     ensures within { IfSome result IsInRange }
 {
+    let large = text_of(found, "large") == "true";
+    let json = text_of(found, "json") == "true";
+    let slots = number_of(text_of(found, "slots"), 1, sizes_by(large).slots)?;
+    let mode = mode_of(family, found)?;
+    let placement = placement_of(text_of(found, "placement"))?;
+    let depth = number_of(text_of(found, "depth"), 0, 15)?;
+    let parts = removals_of(text_of(found, "removals"))?;
+    if json && large {
+        return None;
+    }
     Some(Asked::Script {
         family,
-        slots: number_of(text_of(found, "slots"), 1, SCRIPT_SLOTS)?,
-        mode: mode_of(family, found)?,
-        placement: placement_of(text_of(found, "placement"))?,
+        slots,
+        mode,
+        placement,
         trace: text_of(found, "trace") == "true",
-        depth: number_of(text_of(found, "depth"), 0, 15)?,
-        json: text_of(found, "json") == "true",
+        depth,
+        json,
         names: text_of(found, "names") == "true",
-        parts: removals_of(text_of(found, "removals"))?,
+        parts,
+        large,
     })
 }
 

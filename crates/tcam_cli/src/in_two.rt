@@ -2,6 +2,7 @@
 
 ghost use Rattle.std.specs.Prelude.{Bool, false, ◌≡◌, ◌≢◌, ◌+◌, ◌<◌, ◌≤◌, ◌^◌, [], Err, None, OnOk, length};
 ghost use Rattle.script_lines.specs.Given.{counted};
+ghost use Rattle.report_lines.specs.Sizes.{sizes_by};
 ghost use Rattle.report_lines.specs.Text.{family_version};
 ghost use Rattle.settled_changes.specs.Requested.{changes_in};
 ghost use Rattle.replay.specs.Carried.{IsAt};
@@ -32,11 +33,11 @@ pub(crate) fn apply_by<K: Sink, D: ReadBack>(
     requires act { IsActOf run.old.family act.now }
     requires told { IsToldIn run.old.json (family_version run.old.family) act.now }
     requires at { IsAt (D.view device.old).slots (D.view device.old).events (progress_of (D.view device.old).slots run.old) }
-    requires commits { run.old.commits + 1 < 2 ^ 24 }
+    requires commits { run.old.commits + 1 < 2 ^ 28 }
     ensures acts { (which : Bool) → ComesToBy (D.view device.old).slots run.old act.now run.new result
         (D.view device.old).events (D.view device.new).events (counted which (K.taken sink.old) (K.accepted sink.old)) (counted which (K.taken sink.new) (K.accepted sink.new)) }
     ensures held { AnswersHeld None result }
-    ensures limit { limit_text result ≡ limit_fault act.now (changes_in run.old.pending run.old.asked) (length run.old.probes) }
+    ensures limit { limit_text result ≡ limit_fault (sizes_by run.old.large).commands act.now (changes_in run.old.pending run.old.asked) (length run.old.probes) }
     ensures stands { OnOk result (IsIdleAt (D.view device.new).slots (D.view device.new).events (D.view device.new).flight run.new) }
     ensures setting { setting_of run.new ≡ setting_of run.old }
     ensures commits { run.new.commits ≤ run.old.commits + 2 }
@@ -60,7 +61,7 @@ fn commit_by<K: Sink, D: ReadBack>(
     requires idle { run.old.manager.held ≡ None }
     requires whole { run.old.broken ≡ false }
     requires at { IsAt (D.view device.old).slots (D.view device.old).events (progress_of (D.view device.old).slots run.old) }
-    requires commits { run.old.commits + 1 < 2 ^ 24 }
+    requires commits { run.old.commits + 1 < 2 ^ 28 }
     ensures acts { (which : Bool) → ComesToBy (D.view device.old).slots run.old Act.Commit run.new result
         (D.view device.old).events (D.view device.new).events (counted which (K.taken sink.old) (K.accepted sink.old)) (counted which (K.taken sink.new) (K.accepted sink.new)) }
     ensures held { AnswersHeld None result }

@@ -84,7 +84,7 @@ mod own_texts;
 mod top;
 mod traces;
 
-pub use command_line::{Asked, read_words};
+pub use command_line::{Asked, read_words, slots_wanted};
 pub use own_texts::Topic;
 pub use script_runs::Status;
 pub use top::{read_family_act, run, told_act};

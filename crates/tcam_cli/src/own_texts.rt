@@ -74,6 +74,8 @@ Options:
                      for each command, device write and drain of a commit
     --depth K        of these, after how many further writes the words of the
                      probes are searched: 0 to 15, by default 0, at once
+    --large          of scripts, up to 1048576 slots, as many changes of a table
+                     a commit, and 256 MiB of script; not with --json
 
 When something is wrong:
     tcam explain WORDS.. < FILE    tells which of WORDS is wrong, and what it may
@@ -98,7 +100,7 @@ The manual is docs/SCRIPT.md.
 const ROUTE_HELP: &str = "\
 tcam route: carries out a script of routes, and writes a report.
 
-    tcam route [--slots N] [--placement P] [--removals R] [--trace] [--names] [--depth K] [--json] < FILE
+    tcam route [--slots N] [--placement P] [--removals R] [--trace] [--names] [--depth K] [--json] [--large] < FILE
 
 Commands of a script, one a line:
     route add PREFIX RESULT    a new route: packets to the prefix get RESULT,
@@ -130,6 +132,8 @@ Options, of which tcam --help says more:
     --names          with --trace, what each write does, by the names of rules
     --depth K        probes are searched K writes later, 0 to 15, by default 0
     --json           a report in JSON, a value a line; no trial, no crash
+    --large          up to 1048576 slots, as many changes a commit, and 256 MiB
+                     of script; not with --json
 
 Example of a script, whose packet gets the answer 10.0.0.0/8 7:
     route add 10.0.0.0/8 7
@@ -143,7 +147,7 @@ The manual is docs/SCRIPT.md.
 const ACL_HELP: &str = "\
 tcam acl: carries out a script of an access list, and writes a report.
 
-    tcam acl [--slots N] [--ranges R] [--placement P] [--removals R] [--trace] [--names] [--depth K] [--json] < FILE
+    tcam acl [--slots N] [--ranges R] [--placement P] [--removals R] [--trace] [--names] [--depth K] [--json] [--large] < FILE
 
 Commands of a script, one a line, with the source's side and ports first:
     acl add SEQ ACTION SIDE SIDE PROTOSPEC PORTSPEC PORTSPEC
@@ -179,6 +183,8 @@ Options, of which tcam --help says more:
     --names          with --trace, what each write does, by the names of rules
     --depth K        probes are searched K writes later, 0 to 15, by default 0
     --json           a report in JSON, a value a line; no trial, no crash
+    --large          up to 1048576 slots, as many changes a commit, and 256 MiB
+                     of script; not with --json
 
 Example of a script, whose packet gets the answer 10 permit:
     acl add 10 permit any 10.0.0.0/8 tcp any 443
@@ -192,7 +198,7 @@ The manual is docs/SCRIPT.md.
 const ROUTE6_HELP: &str = "\
 tcam route6: carries out a script of IPv6 routes, and writes a report.
 
-    tcam route6 [--slots N] [--placement P] [--removals R] [--trace] [--names] [--depth K] [--json] < FILE
+    tcam route6 [--slots N] [--placement P] [--removals R] [--trace] [--names] [--depth K] [--json] [--large] < FILE
 
 Commands of a script, one a line:
     route add PREFIX RESULT    a new route: packets to the prefix get RESULT,
@@ -224,6 +230,8 @@ Options, of which tcam --help says more:
     --names          with --trace, what each write does, by the names of rules
     --depth K        probes are searched K writes later, 0 to 15, by default 0
     --json           a report in JSON, a value a line; no trial, no crash
+    --large          up to 1048576 slots, as many changes a commit, and 256 MiB
+                     of script; not with --json
 
 Example of a script, whose packet gets the answer 2001:db8::/32 7:
     route add 2001:db8::/32 7
@@ -237,7 +245,7 @@ The manual is docs/SCRIPT.md.
 const ACL6_HELP: &str = "\
 tcam acl6: carries out a script of an IPv6 access list, and writes a report.
 
-    tcam acl6 [--slots N] [--ranges R] [--placement P] [--removals R] [--trace] [--names] [--depth K] [--json] < FILE
+    tcam acl6 [--slots N] [--ranges R] [--placement P] [--removals R] [--trace] [--names] [--depth K] [--json] [--large] < FILE
 
 Commands of a script, one a line, with the source's side and ports first:
     acl add SEQ ACTION SIDE SIDE PROTOSPEC PORTSPEC PORTSPEC
@@ -273,6 +281,8 @@ Options, of which tcam --help says more:
     --names          with --trace, what each write does, by the names of rules
     --depth K        probes are searched K writes later, 0 to 15, by default 0
     --json           a report in JSON, a value a line; no trial, no crash
+    --large          up to 1048576 slots, as many changes a commit, and 256 MiB
+                     of script; not with --json
 
 Example of a script, whose packet gets the answer 10 permit:
     acl add 10 permit any 2001:db8::/32 tcp any 443

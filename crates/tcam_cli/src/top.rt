@@ -19,7 +19,7 @@ ghost use Rattle.report_lines.specs.Text.{family_version};
 ghost use Rattle.replay.specs.Reports.{fault_told};
 ghost use Rattle.tcam_cli.specs.AllTheWay.{IsHitlessJob};
 ghost use Rattle.tcam_cli.specs.CommandLine.{job_of};
-ghost use Rattle.tcam_cli.specs.Headline.{IsCarriedOut, HasCauses, Makes, Reads, run_kind, status_of};
+ghost use Rattle.tcam_cli.specs.Headline.{IsCarriedOut, HasCauses, Makes, Reads, run_kind, status_of, wanted_slots};
 ghost use Rattle.tcam_cli.specs.MadeScript.{made_act};
 ghost use Rattle.tcam_cli.specs.Readings.{acl_act, acl_reading, common_act, reading, reading_by, route_act, route_reading, told_by};
 ghost use Rattle.script_runs.specs.Rounds.{RoundsBy, outputs};
@@ -37,20 +37,20 @@ use line_words::{CommonCommand, WordFault};
 use option_words::WordsFault;
 use replay::Family::Acl;
 use replay::{Act, ActFault, Family, Run, write_text};
+use report_lines::sizes_by;
 use route_reader::{RouteCommand, read_route, route_of, route_rank};
 use rule_gen::{Made, Maker};
 use rule_model::{IpVersion, Prefix, list_rank};
 use rule_store::Command;
 use script_lines::{Failed, Line, LineFault, Lines, Sink, Source};
 use settled_changes::Request;
-use slot_order::SCRIPT_SLOTS;
 use std::alloc::Global;
 use tcam_device::ReadBack;
 
-/// Runs what the words of a command line ask for, the program's name first, over a blank device of at least 4,096
-/// slots with no word in flight: a script of routes or of an access list from the source, commands of an access list
-/// that are made from a seed, of which the same holds as of a script and which leave the source as it is, the check of a
-/// trace from the source, or one of the product's own texts.
+/// Runs what the words of a command line ask for, the program's name first, over a blank device of at least as
+/// many slots as they ask for (`slots_wanted`) with no word in flight: a script of routes or of an access list from the
+/// source, commands of an access list that are made from a seed, of which the same holds as of a script and which leave the
+/// source as it is, the check of a trace from the source, or one of the product's own texts.
 ///
 /// After every single device write each packet key has the answer of the set before the commit or of the one after it,
 /// and after the last write of a commit that finishes that of the one after it; a refused commit writes nothing. A commit
@@ -88,7 +88,7 @@ pub fn run<S: Source, K: Sink, D: ReadBack>(
     sink: &mut K,
     device: &mut D,
 ) -> Status
-    requires slots { SCRIPT_SLOTS ≤ (D.view device.old).slots }
+    requires slots { wanted_slots (job_of (map (λ w. string_bytes w) words.now)) ≤ (D.view device.old).slots }
     requires blank { (D.view device.old).events ≡ [] }
     requires none_in_flight { (D.view device.old).flight ≡ [] }
     ensures carried_out { IsCarriedOut (job_of (map (λ w. string_bytes w) words.now)) (D.view device.old).slots result
@@ -116,11 +116,15 @@ pub fn run<S: Source, K: Sink, D: ReadBack>(
                 json,
                 names,
                 parts,
+                large,
             },
         ) => match Run::new(
             alloc, slots, mode, placement, family, trace, depth, json, names,
         ) {
-            Ok(run) => run_script(&mut run.with_removals_first(parts), source, sink, device),
+            Ok(run) => {
+                let mut run = run.with_removals_first(parts).with_large(large);
+                run_script(&mut run, source, sink, device)
+            }
             Err(_) => Status::Memory,
         },
         Ok(
@@ -168,7 +172,7 @@ fn run_script<S: Source, K: Sink, D: ReadBack>(
     ensures causes { HasCauses (Reads (setting_of run.old)) (S.left source.old) result
         (S.faults source.old) (S.faults source.new) (K.faults sink.old) (K.faults sink.new) (D.view device.old) (D.view device.new) }
 {
-    let mut lines = Lines::new();
+    let mut lines = Lines::of_at_most(sizes_by(run.is_large()).bytes);
     'acts: loop {
         match round(&mut lines, run, source, sink, device) {
             Some(status) => return status,
@@ -249,6 +253,7 @@ fn run_made<K: Sink, D: ReadBack>(
     requires family { run.old.family ≡ Family.Acl }
     requires words { run.old.json ≡ false }
     requires in_one { run.old.parts ≡ false }
+    requires usual { run.old.large ≡ false }
     requires slots { run.old.manager.slots ≤ (D.view device.old).slots }
     requires idle { run.old.manager.held ≡ None }
     requires whole { run.old.broken ≡ false }

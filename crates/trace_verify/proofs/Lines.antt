@@ -6,7 +6,7 @@ use Rattle.std.specs.Prelude.{IsAscii}
 use Rattle.std.proofs.lemmas.Str.Ascii.{IsAscii-nil, IsAscii-cons}
 use Rattle.std.proofs.lemmas.Bool.Decides.{nat_tests}
 use Rattle.script_lines.specs.declared.LineFault.{LineFault}
-use Rattle.script_lines.specs.Lines.{NumberedLine, LinesEnd, ScriptLines, EndOfInput, Faulty, ends_at, onto_lines, lines_of, text_lines_from}
+use Rattle.script_lines.specs.Lines.{NumberedLine, LinesEnd, ScriptLines, EndOfInput, Faulty, ends_at, onto_lines, lines_of, most_bytes, text_lines_from}
 use Rattle.script_lines.specs.Reader.{IsOpenLine, is_of_line}
 use Rattle.script_lines.proofs.Texts.{text-whole, text-last, text-fault, at_line, IsOfLine}
 use Rattle.trace_check.specs.Answers.{TraceAnswer, Unread, Checking, Tells, IsTraceAnswer}
@@ -92,7 +92,7 @@ told-at-end text done check rest answer is none told =
     is.there answer (subst (λ r. TellsLines check (text_lines_from (length text) done check.next r) answer) (sym none) told)
 
 -- a byte at fault
-pub told-at-fault : (text : List ℕ) (done : ℕ) (check : Checking) (rest : List ℕ) (fault : LineFault) → IsBehind text done check rest → lines_of rest ≡ ends_at (Faulty fault)
+pub told-at-fault : (text : List ℕ) (done : ℕ) (check : Checking) (rest : List ℕ) (fault : LineFault) → IsBehind text done check rest → lines_of most_bytes rest ≡ ends_at (Faulty fault)
     → IsTraceAnswer text (Unread (at_line check.next fault))
 told-at-fault text done check rest fault is faulty =
     let size = is.size in
@@ -101,7 +101,7 @@ told-at-fault text done check rest fault is faulty =
     is.there (Unread (at_line check.next fault)) (subst (λ l. TellsLines check l (Unread (at_line check.next fault))) (sym here.0) refl)
 
 -- which is one of a line, and not of the whole text
-pub fault-of-line : (rest : List ℕ) (fault : LineFault) → lines_of rest ≡ ends_at (Faulty fault) → IsOfLine fault
+pub fault-of-line : (rest : List ℕ) (fault : LineFault) → lines_of most_bytes rest ≡ ends_at (Faulty fault) → IsOfLine fault
 fault-of-line rest fault faulty =
     let room : 0 + length rest ≤ length rest = omega arith in
     (text-fault (length rest) 0 1 rest fault room faulty).1

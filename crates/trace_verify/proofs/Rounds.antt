@@ -8,7 +8,7 @@ use Rattle.script_lines.specs.declared.LineFault.TheVariants as fault
 use Rattle.script_lines.specs.declared.Over.{Over}
 use Rattle.script_lines.specs.declared.Over.TheVariants as over
 use Rattle.script_lines.specs.Given.{MayGive}
-use Rattle.script_lines.specs.Lines.{NumberedLine, LinesEnd, EndOfInput, Faulty, limits, ends_at, lines_from, lines_of, numbered, text_lines_from}
+use Rattle.script_lines.specs.Lines.{NumberedLine, LinesEnd, EndOfInput, Faulty, limits, ends_at, lines_from, lines_of, most_bytes, numbered, text_lines_from}
 use Rattle.script_lines.specs.Reader.{HeldBytes, IsOpenLine, lines_held, HandsWhole, HandsLast, Hands, HandsByGiven, Again, Stays, LastAtOpenLine}
 use Rattle.script_lines.proofs.Turns.{may-all}
 use Rattle.trace_check.specs.Checked.{Checked}
@@ -36,7 +36,7 @@ going-line : (o : Over) (line : Line) → MayGoOn o → Again o (Ok (Some line))
 going-line o line may again = still-going o (Ok (Some line)) may (λ e. cc) again
 
 -- it reads what is held and left as a script
-held-anew : (old : HeldBytes) (left : List ℕ) → IsAnew old → lines_held old left ≡ lines_of (old.pending ++ left)
+held-anew : (old : HeldBytes) (left : List ℕ) → IsAnew old → lines_held old left ≡ lines_of most_bytes (old.pending ++ left)
 held-anew old left anew =
     ap (λ b. lines_from limits b old.number [] (old.pending ++ left)) anew.before ∙ ap (λ n. lines_from limits 0 n [] (old.pending ++ left)) anew.number
 
@@ -128,7 +128,7 @@ module _ (old new : HeldBytes) (number : ℕ) (checked : Checked) (pieces : List
 
   -- a byte at fault
   faulty : (f : LineFault) (held : HeldBytes) (left now : List ℕ) → HandsByGiven old pieces (Err f) held → Again old.over (Err f) → MayGive left pieces now
-      → (Hands old left (Err f) held now → lines_held old left ≡ ends_at (Faulty f)) → lines_of (old.pending ++ left) ≡ ends_at (Faulty f)
+      → (Hands old left (Err f) held now → lines_held old left ≡ ends_at (Faulty f)) → lines_of most_bytes (old.pending ++ left) ≡ ends_at (Faulty f)
   faulty f held left now by again may read = sym (held-anew old left anew) ∙ read (by.hands (going-fault old.over f anew.goes_on again) left now may)
 
   pub rounds-too-long : (held : HeldBytes) (line : ℕ) → HandsByGiven old pieces (Err (fault.TooLong line)) held → Again old.over (Err (fault.TooLong line))

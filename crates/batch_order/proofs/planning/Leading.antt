@@ -248,5 +248,5 @@ module _ (placement : Placement) (translation : Option Translation) (rules : Sto
       (subst (λ (w : List Write). AreNumbersOf w plan.planned counts) plan.writes_are plan.numbers))
 
   -- its writes are few
-  pub few_planned : length writes ≤ 2 ^ 39
+  pub few_planned : length writes ≤ 2 ^ 35
   few_planned = plan.few

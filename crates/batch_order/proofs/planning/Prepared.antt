@@ -37,7 +37,7 @@ module _ (old new : Managed) (batch : List Command) (counts : Done) (holds : Hol
   number_is : counts.writes ≡ length holds.made
   number_is = (holds.numbers old.slots (le_refl old.slots)).writes
 
-  pub counted_few : counts.writes ≤ 2 ^ 39
+  pub counted_few : counts.writes ≤ 2 ^ 35
   counted_few = let few = holds.few in let number = number_is in omega arith
 
   abbrev plan : HeldCommit

@@ -181,7 +181,7 @@ pub record IsPlanOf (placement : Placement) (translation : Option Translation) (
   pub live_is : new.live ≡ live_after old.live planned
   pub middle_is : middle ≡ slots_after slots planned
   pub writes_are : writes ≡ words_by translation rules old slots batch ++ batch_writes new.entries slots planned rewrites erased
-  pub few : length writes ≤ 2 ^ 39
+  pub few : length writes ≤ 2 ^ 35
   pub numbers : AreNumbersOf writes planned counts
 
 -- what the words of a plan are
@@ -202,7 +202,7 @@ pub record AreRestPlanned (middle : Slots) (rewrites : List Rewrite) (erased : L
   pub words : counts.words ≡ plan.words
   pub most : counts.most ≡ plan.most
   pub span : counts.span ≡ plan.span
-  pub few : length writes ≤ 2 ^ 39
+  pub few : length writes ≤ 2 ^ 35
 
 -- A plan of a batch, and the parts of its longest insertion.
 pub record IsCountedPlan (placement : Placement) (translation : Option Translation) (rules : StoredRules) (old new : Entries) (slots middle : Slots) (batch : List Command) (rewrites : List Rewrite) (erased : List ℕ) (writes : List Write) (counts : Done) (most_parts : ℕ) : Type 0 where
@@ -246,7 +246,7 @@ plan_made placement translation rules old new slots middle batch rewrites erased
     live_is = since.live_is;
     middle_is = since.slots_are;
     writes_are = are;
-    few = subst (λ (n : ℕ). n ≤ 2 ^ 39) (sym (length-map planned (as_write new.entries rewrites))) rest.few;
+    few = subst (λ (n : ℕ). n ≤ 2 ^ 35) (sym (length-map planned (as_write new.entries rewrites))) rest.few;
     numbers = record {
       writes_are = rest.number ∙ sym (length-map planned (as_write new.entries rewrites));
       words = rest.words ∙ (since.words ∙ (words.number ∙ sym tables));

@@ -168,10 +168,10 @@ module _ (placement : Placement) (translation : Option Translation) (rules : Sto
     writes_are = sym (append_assoc (fresh_writes mode bits rules.rules batch narrow) (twin_writes twin) (batch_writes new.entries slots planned rest.left.rewrites.items rest.left.erased.items));
   }
 
-  few_writes : length writes ≤ 2 ^ 39
+  few_writes : length writes ≤ 2 ^ 35
   few_writes =
-      subst (λ (made : List Write). length made ≤ 2 ^ 39) on.planned.plan.writes_are
-      (subst (λ (n : ℕ). n ≤ 2 ^ 39) (sym (length-map (all_writes rest.plan.writes) (as_write new.entries rest.left.rewrites.items))) on.planned.few_writes)
+      subst (λ (made : List Write). length made ≤ 2 ^ 35) on.planned.plan.writes_are
+      (subst (λ (n : ℕ). n ≤ 2 ^ 35) (sym (length-map (all_writes rest.plan.writes) (as_write new.entries rest.left.rewrites.items))) on.planned.few_writes)
 
   pub resumes : (parts : Parts) → parts.rules.rules ≡ rules.rules → bits_in parts ≡ bits_of translation
       → Resumes (length slots) (mode_of translation) placement parts batch (length state.slots) state (managed_by placement translation rules new found (Some (held_by translation rules batch state slots' rest some)))

@@ -3,15 +3,16 @@ use Rattle.std.specs.List.{concat}
 use Rattle.script_lines.specs.Given.{HasEnd}
 use Rattle.script_lines.specs.Reader.{HeldBytes}
 use Rattle.script_lines.proofs.Turns.{gives-none, gives-trans, may-first, may-second, ended-both, no-more}
-use Rattle.script_runs.proofs.Rounds.{counted-last}
+use Rattle.report_lines.specs.declared.sizes.Sizes.{Sizes}
+use Rattle.script_runs.proofs.Rounds.{counted-last, fresh}
 use Rattle.explain_router.proofs.Rounds.{stands-first}
 use Rattle.explain_router.proofs.explain_router_script.Goals as goal
 
 pub rounds-init : goal.rounds-init
 rounds-init g c = record {
   few = (omega arith, omega arith);
-  within = let none = ap (λ (h : HeldBytes). h.before) c.new-lines.ensures in omega (arith, none);
-  gives = ([], gives-none _ _, λ e. absurd e, λ text now may. stands-first c.args.version _ text now c.new-lines.ensures may);
+  within = let none = ap (λ (h : HeldBytes). h.before) c.of_at_most-lines.ensures in omega (arith, none);
+  gives = ([], gives-none _ _, λ e. absurd e, λ text now may. stands-first c.args.wanted _ text now (c.of_at_most-lines.ensures ∙ ap (λ (s : Sizes). fresh s.bytes) c.sizes_by.ensures.sizes) may);
   reads = refl;
   writes = refl;
 }

@@ -19,8 +19,8 @@ returns-in-Err-ScriptTooLong-clause-gives g c =
       h.ensures.gives.0,
       h.ensures.gives.1,
       rounds-ends _ _ _ _ _ _ _ _ _ h.ensures.gives.2 (λ bytes left now may s.
-          stop-right c.args.version bytes now _ c.stop.ensures.kind
-          (byte-wrong c.args.counts.now.wrong c.args.version bytes _ left c.args.counts.now _ _ _ refl s (rw h.field-0-is at h.ensures.again) (λ going. rw h.field-0-is at (h.ensures.gives.2.hands going left now may)))),
+          stop-right c.args.wanted bytes now _ c.stop.ensures.kind
+          (byte-wrong c.args.counts.now.wrong c.args.wanted bytes _ left c.args.counts.now _ _ _ refl s (rw h.field-0-is at h.ensures.again) (λ going. rw h.field-0-is at (h.ensures.gives.2.hands going left now may)))),
     )
 
 pub returns-in-Err-TooLong-clause-gives : goal.returns-in-Err-TooLong-clause-gives
@@ -29,8 +29,8 @@ returns-in-Err-TooLong-clause-gives g c =
       h.ensures.gives.0,
       h.ensures.gives.1,
       rounds-ends _ _ _ _ _ _ _ _ _ h.ensures.gives.2 (λ bytes left now may s.
-          stop-right c.args.version bytes now _ c.stop-in-Err-TooLong.ensures.kind
-          (byte-wrong c.args.counts.now.wrong c.args.version bytes _ left c.args.counts.now _ _ _ refl s (rw h.field-0-is at h.ensures.again) (λ going. rw h.field-0-is at (h.ensures.gives.2.hands going left now may)))),
+          stop-right c.args.wanted bytes now _ c.stop-in-Err-TooLong.ensures.kind
+          (byte-wrong c.args.counts.now.wrong c.args.wanted bytes _ left c.args.counts.now _ _ _ refl s (rw h.field-0-is at h.ensures.again) (λ going. rw h.field-0-is at (h.ensures.gives.2.hands going left now may)))),
     )
 
 pub returns-in-Err-BadByte-clause-gives : goal.returns-in-Err-BadByte-clause-gives
@@ -39,8 +39,8 @@ returns-in-Err-BadByte-clause-gives g c =
       h.ensures.gives.0,
       h.ensures.gives.1,
       rounds-ends _ _ _ _ _ _ _ _ _ h.ensures.gives.2 (λ bytes left now may s.
-          stop-right c.args.version bytes now _ c.stop-in-Err-BadByte.ensures.kind
-          (byte-wrong c.args.counts.now.wrong c.args.version bytes _ left c.args.counts.now _ _ _ refl s (rw h.field-0-is at h.ensures.again) (λ going. rw h.field-0-is at (h.ensures.gives.2.hands going left now may)))),
+          stop-right c.args.wanted bytes now _ c.stop-in-Err-BadByte.ensures.kind
+          (byte-wrong c.args.counts.now.wrong c.args.wanted bytes _ left c.args.counts.now _ _ _ refl s (rw h.field-0-is at h.ensures.again) (λ going. rw h.field-0-is at (h.ensures.gives.2.hands going left now may)))),
     )
 
 pub returns-in-Ok-None-clause-gives : goal.returns-in-Ok-None-clause-gives
@@ -49,8 +49,8 @@ returns-in-Ok-None-clause-gives g c =
       h.ensures.gives.0,
       h.ensures.gives.1,
       rounds-ends _ _ _ _ _ _ _ _ _ h.ensures.gives.2 (λ bytes left now may s.
-          finish-right c.args.version bytes now _ _ c.finish.ensures.kind
-          (end-right c.args.counts.now.wrong c.args.version bytes _ left now c.args.counts.now s
+          finish-right c.args.wanted bytes now _ _ c.finish.ensures.kind
+          (end-right c.args.counts.now.wrong c.args.wanted bytes _ left now c.args.counts.now s
           (λ going. let hands = rw h.field-0-is at (h.ensures.gives.2.hands going left now may) in (hands.0, hands.1))
           (λ other. rests-same _ _ _ _ left now h.ensures.gives.2 may other))),
     )
@@ -71,9 +71,9 @@ returns-in-Ok-write_text-clause-gives g c =
       h.ensures.gives.0,
       h.ensures.gives.1,
       rounds-goes _ _ _ _ _ _ _ h.ensures.gives.2 (λ bytes left now may s.
-          subst (λ (n : Counts). IsStanding c.args.version bytes c.next.new.self now n) (sym c.in-Ok.ensures.next)
-          (stands-by c.args.version bytes _ left (numbered h.line) c.next.new.self now c.args.counts.now (λ going. rw h.field-0-is at (h.ensures.gives.2.hands going left now may))
-          c.args.counts.now.wrong h.line (router_reading c.args.version (numbered h.line).text) refl s (rw h.field-0-is at h.ensures.again) refl)),
+          subst (λ (n : Counts). IsStanding c.args.wanted bytes c.next.new.self now n) (sym c.in-Ok.ensures.next)
+          (stands-by c.args.wanted bytes _ left (numbered h.line) c.next.new.self now c.args.counts.now (λ going. rw h.field-0-is at (h.ensures.gives.2.hands going left now may))
+          c.args.counts.now.wrong h.line (router_reading c.args.wanted.version (numbered h.line).text) refl s (rw h.field-0-is at h.ensures.again) refl)),
     )
 
 -- ---- failures of the sink

@@ -210,10 +210,10 @@ module _ (run : Running) (half : IsHalfway run) where
           (both-in_use half.begun.slots (back-parts back).0 half.begun.state held_begun.actions begun-in_use)
 
   -- few writes are made in all
-  pub whole-few : length (writes_in whole_actions) ≤ 2 ^ 40 - 1
+  pub whole-few : length (writes_in whole_actions) ≤ 2 ^ 36 - 1
   whole-few = go is_back refl
     where
-      go : (back : Bool) → is_back ≡ back → length (writes_in whole_actions) ≤ 2 ^ 40 - 1
+      go : (back : Bool) → is_back ≡ back → length (writes_in whole_actions) ≤ 2 ^ 36 - 1
       go false on =
           let few = begun-holds.few in
           let same : length (writes_in whole_actions) ≡ length begun-holds.made = ap length (whole-forward on).1 in
@@ -242,14 +242,14 @@ module _ (run : Running) (half : IsHalfway run) where
   }
 
   -- few writes were told or are left
-  pub few-left : IfSome run.manager.held (λ held. run.told + length (writes_in held.actions) ≤ 2 ^ 40)
+  pub few-left : IfSome run.manager.held (λ held. run.told + length (writes_in held.actions) ≤ 2 ^ 36)
   few-left =
       let few = whole-few in
       let all : length (writes_in whole_actions) ≡ length (writes_in half.some.made) + length (writes_in half.some.left) =
       ap length (writes_in-append half.some.made half.some.left) ∙ length-append (writes_in half.some.made) (writes_in half.some.left) in
       let told = half.told in
-      let most : run.told + length (writes_in half.some.left) ≤ 2 ^ 40 = omega arith in
-      subst (λ held. IfSome held (λ (x : HeldCommit). run.told + length (writes_in x.actions) ≤ 2 ^ 40)) (sym (some-held (course_of run.fate half.begun held_begun) run.manager half.some)) most
+      let most : run.told + length (writes_in half.some.left) ≤ 2 ^ 36 = omega arith in
+      subst (λ held. IfSome held (λ (x : HeldCommit). run.told + length (writes_in x.actions) ≤ 2 ^ 36)) (sym (some-held (course_of run.fate half.begun held_begun) run.manager half.some)) most
 
   -- the line that it ends with
   abbrev pub line_by : Bool → List ℕ
@@ -360,8 +360,8 @@ module _ (Seen : Type 0) (run : Running) (half : IsHalfway run) (watch : Watchin
       let same = ((begun-holds run half).numbers half.begun.slots (omega arith)).writes in
       ap (λ n. run.writes + n) (number-whole ∙ ap length (whole-forward run half on).1 ∙ sym same)
 
-  pub few-made : count_now.told ≤ 2 ^ 40 - 1
-  few-made = subst (λ n. n ≤ 2 ^ 40 - 1) (sym number-whole) (whole-few run half)
+  pub few-made : count_now.told ≤ 2 ^ 36 - 1
+  few-made = subst (λ n. n ≤ 2 ^ 36 - 1) (sym number-whole) (whole-few run half)
 
   -- before its batch is dropped
   pub made-run_held : IsRun run → IsRun (record run { manager = now; told = 0; waiting = 0; fate = Finishes })
@@ -376,7 +376,7 @@ module _ (Seen : Type 0) (run : Running) (half : IsHalfway run) (watch : Watchin
   pub ended-run : IsRun run → IsRun (run_ended run half)
   ended-run is = go (is_back run half) refl
     where
-      few : run.writes + length (writes_in (whole_actions run half)) ≤ (run.commits + 1) * (2 ^ 40 - 1)
+      few : run.writes + length (writes_in (whole_actions run half)) ≤ (run.commits + 1) * (2 ^ 36 - 1)
       few = let before = is.few in let more = whole-few run half in omega arith
 
       go : (back : Bool) → is_back run half ≡ back → IsRun (ended_by run half back)

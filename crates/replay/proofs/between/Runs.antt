@@ -205,7 +205,7 @@ module _ (run : Running) (counts : Done) (is : IsRun run) (holds : Holds (record
       (subst (λ size. AllByRecursion (IsInUse size) holds.made) (sym is.size) holds.in_use))
 
   -- the run once the writes are made
-  pub made-run : (pending : List Change) (commits writes : ℕ) → ((version : IpVersion) → run.family ≡ routes_of version → OnlyChangesRoutes version pending) → writes ≤ commits * (2 ^ 40 - 1)
+  pub made-run : (pending : List Change) (commits writes : ℕ) → ((version : IpVersion) → run.family ≡ routes_of version → OnlyChangesRoutes version pending) → writes ≤ commits * (2 ^ 36 - 1)
       → IsRun (record (run_after run holds.made counts) { pending = pending; commits = commits; writes = writes })
   made-run pending commits writes changes few = record {
     changes = changes;
@@ -223,7 +223,7 @@ module _ (run : Running) (counts : Done) (is : IsRun run) (holds : Holds (record
 
   -- once they were taken back
   pub returned-run : (pending : List Change) (commits writes : ℕ) (both : List Write) → ((version : IpVersion) → run.family ≡ routes_of version → OnlyChangesRoutes version pending)
-      → writes ≤ commits * (2 ^ 40 - 1) → state_after run.manager.state both ≡ run.manager.state → ShowsRules (record run.manager { held = None })
+      → writes ≤ commits * (2 ^ 36 - 1) → state_after run.manager.state both ≡ run.manager.state → ShowsRules (record run.manager { held = None })
       → IsRun (record (run_returned run both) { pending = pending; commits = commits; writes = writes })
   returned-run pending commits writes both changes few ends shows = record {
     changes = changes;

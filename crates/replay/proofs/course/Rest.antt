@@ -28,7 +28,7 @@ use Rattle.replay.proofs.course.Resuming.{began, course-half, ending-half, so_fa
 pub record EndsWith (run : Running) (now : Managed) (count : Count) (end : Ended) (line : List ℕ) (ended : Running) : Type 0 where
   pub idle : now.held ≡ None
   pub same_slots : now.slots ≡ run.manager.slots
-  pub few : count.told ≤ 2 ^ 40 - 1
+  pub few : count.told ≤ 2 ^ 36 - 1
   -- what it is before its batch is dropped, and then
   pub closing : IsRun (record run { manager = now; told = 0; waiting = 0; fate = fates.Finishes })
   pub ended_is : IsRun ended
@@ -42,7 +42,7 @@ pub record Rest (slots : ℕ) (before : Progress) (front : List Effect) (run : R
   pub ended : Running
   pub ending : Ending slots before front run course line ended
   -- few writes are left
-  pub few_left : IfSome run.manager.held (λ held. run.told + length (writes_in held.actions) ≤ 2 ^ 40)
+  pub few_left : IfSome run.manager.held (λ held. run.told + length (writes_in held.actions) ≤ 2 ^ 36)
   pub few_waiting : run.waiting ≤ run.depth
   -- the actions that are left are those that are made
   pub part : (now : Managed) (some : MakesSome run.manager now) → course.left ≡ some.made ++ some.left

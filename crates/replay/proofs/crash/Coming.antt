@@ -30,11 +30,11 @@ use Rattle.replay.proofs.crash.ToTurn.{IsToStop, comes-to, few-due, stands-some,
 
 -- few writes were told and are left, by their number
 pub few-told : (after : ℕ) (then : Then) (base now : Running) → base ≡ now → IsRun base → IsSome now.manager.held → base.fate ≡ fates.Turns after then
-    → (left : ℕ) → Some left ≡ option_map (λ held. length (writes_in held.actions)) base.manager.held → base.told + left ≤ 2 ^ 40
+    → (left : ℕ) → Some left ≡ option_map (λ held. length (writes_in held.actions)) base.manager.held → base.told + left ≤ 2 ^ 36
 few-told after then base now view_is is held fate_is left left_is =
     go base.manager.held (few-due after then base is (subst (λ (r : Running). IsSome r.manager.held) (sym view_is) held) fate_is) left_is
   where
-    go : (held : Option HeldCommit) → IfSome held (λ one. base.told + length (writes_in one.actions) ≤ 2 ^ 40) → Some left ≡ option_map (λ one. length (writes_in one.actions)) held → base.told + left ≤ 2 ^ 40
+    go : (held : Option HeldCommit) → IfSome held (λ one. base.told + length (writes_in one.actions) ≤ 2 ^ 36) → Some left ≡ option_map (λ one. length (writes_in one.actions)) held → base.told + left ≤ 2 ^ 36
     go (Some one) few some = let same : left ≡ length (writes_in one.actions) = cc in omega arith
     go None few none = absurd (cc)
 
@@ -73,7 +73,7 @@ module _ (slots after : ℕ) (then : Then) (base began : Running) (view_is : bas
   pub asks-more : IfSome base.manager.held (λ one. after < base.told + length (writes_in one.actions))
   asks-more = more_base
 
-  pub asks-few : IfSome base.manager.held (λ one. base.told + length (writes_in one.actions) ≤ 2 ^ 40)
+  pub asks-few : IfSome base.manager.held (λ one. base.told + length (writes_in one.actions) ≤ 2 ^ 36)
   asks-few = few-left (turning after then base) stop.half
 
   module _ (Seen : Type 0) (result : Result (Unit {0}) RunFault) (now : Managed) (count : Count) (events_old events_new : List Action) (taken taken_new : Option (List ℕ))

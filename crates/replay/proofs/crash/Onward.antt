@@ -65,7 +65,7 @@ pub record GoesBy (slots : ℕ) (mode : Mode) (placement : Placement) (rules : L
   }
   pub on : on_device device_slots (in_use slots state) ≡ state
   pub writes_in_use : AllByRecursion (IsInUse slots) made
-  pub few : length made ≤ 2 ^ 39
+  pub few : length made ≤ 2 ^ 35
   pub goes_on : GoesOn slots mode bits rules batch state left twin made
   pub placed : IsRestPlacedBy placement device_slots (proposal mode bits rules batch) (in_use slots state) done left twin made
   pub uncrossed : (version : IpVersion) → AllByRecursion (IsRoute version) rules → OnlyChangesRoutes version batch → IsUncrossed (prefix_lengths version) (insertions_behind goes_on.shape)
@@ -185,7 +185,7 @@ module _ (slots : ℕ) (run : Running) (onward : IsOnward slots run) (is : IsRun
       ∙ sym (length-append (writes_in firsts) (writes_in onward.some.made)) ∙ ap length (sym (writes_in-append firsts onward.some.made))
 
   -- few writes came before the crash
-  pub first-run_few : onward.after < 2 ^ 39
+  pub first-run_few : onward.after < 2 ^ 35
   first-run_few = let more = onward.more in let few = holds.few in omega arith
 
   -- its line, and the run behind it

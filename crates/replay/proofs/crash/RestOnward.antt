@@ -67,14 +67,14 @@ module _ (slots : ℕ) (run : Running) (onward : IsOnward slots run) (is : IsRun
       }
 
   -- few writes are told or left
-  few-left : IfSome run.manager.held (λ held. run.told + length (writes_in held.actions) ≤ 2 ^ 40)
+  few-left : IfSome run.manager.held (λ held. run.told + length (writes_in held.actions) ≤ 2 ^ 36)
   few-left =
       let number = whole-number in
       let told = onward.told in
       let firsts = first-run_few slots run onward is inside in
       let few = (goes slots run onward is inside).few in
-      let most : run.told + length (writes_in onward.some.left) ≤ 2 ^ 40 = omega arith in
-      subst (λ held. IfSome held (λ (x : HeldCommit). run.told + length (writes_in x.actions) ≤ 2 ^ 40)) (sym (some-held onward.restarted run.manager onward.some)) most
+      let most : run.told + length (writes_in onward.some.left) ≤ 2 ^ 36 = omega arith in
+      subst (λ held. IfSome held (λ (x : HeldCommit). run.told + length (writes_in x.actions) ≤ 2 ^ 36)) (sym (some-held onward.restarted run.manager onward.some)) most
     where
       whole-number : length (writes_in onward.some.made) + length (writes_in onward.some.left) ≡ length (goes slots run onward is inside).made
       whole-number = sym (length-append (writes_in onward.some.made) (writes_in onward.some.left)) ∙ ap length (rest-writes slots run onward is inside)
@@ -153,7 +153,7 @@ module _ (slots : ℕ) (run : Running) (onward : IsOnward slots run) (is : IsRun
       );
     }
       where
-        closed-run : (pending : List Change) (commits writes : ℕ) → ((version : IpVersion) → run.family ≡ routes_of version → OnlyChangesRoutes version pending) → writes ≤ commits * (2 ^ 40 - 1)
+        closed-run : (pending : List Change) (commits writes : ℕ) → ((version : IpVersion) → run.family ≡ routes_of version → OnlyChangesRoutes version pending) → writes ≤ commits * (2 ^ 36 - 1)
             → IsRun (record (ended_over slots run onward is inside) { pending = pending; commits = commits; writes = writes })
         closed-run pending commits writes changes few = record {
           changes = changes;

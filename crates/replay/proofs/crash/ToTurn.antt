@@ -289,7 +289,7 @@ to-stop after then run is held fate_is more =
     record { same = same; is = is_turning; half = half; more = more-made after then run half more }
 
 -- few writes were told and are left
-pub few-due : (after : ℕ) (then : Then) (run : Running) → IsRun run → IsSome run.manager.held → run.fate ≡ fates.Turns after then → IfSome run.manager.held (λ held. run.told + length (writes_in held.actions) ≤ 2 ^ 40)
+pub few-due : (after : ℕ) (then : Then) (run : Running) → IsRun run → IsSome run.manager.held → run.fate ≡ fates.Turns after then → IfSome run.manager.held (λ held. run.told + length (writes_in held.actions) ≤ 2 ^ 36)
 few-due after then run is held fate_is =
     few-left (turning after then run) (first-half after then run (subst IsRun (ap (λ fate. record run { fate = fate }) fate_is) is) held)
 

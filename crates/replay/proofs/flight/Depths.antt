@@ -34,7 +34,7 @@ abbrev ranged : List Action
 ranged = Written (Table Dst 1 1) ∷ Written (Table Dst 2 1) ∷ Drained ∷ Written (Slot 0 (Some entry)) ∷ []
 
 abbrev of_list : ℕ → Setting
-of_list depth = record { slots = 1; mode = Bits; placement = Middle; family = Acl; trace = false; depth = depth; json = false; names = false; parts = false }
+of_list depth = record { slots = 1; mode = Bits; placement = Middle; family = Acl; trace = false; depth = depth; json = false; names = false; parts = false; large = false }
 
 -- all that some actions do, the words that are left searched behind them
 abbrev all_of : Setting → List Key → State → List Action → List Effect
@@ -82,7 +82,7 @@ abbrev twenty : List Action
 twenty = Written (Slot 0 (Some (route 0x0a010200 24 8))) ∷ Written (Slot 1 (Some (route 0x0a010000 20 5))) ∷ []
 
 abbrev of_routes : ℕ → Setting
-of_routes depth = record { slots = 4; mode = Cover; placement = Middle; family = Route; trace = false; depth = depth; json = false; names = false; parts = false }
+of_routes depth = record { slots = 4; mode = Cover; placement = Middle; family = Route; trace = false; depth = depth; json = false; names = false; parts = false; large = false }
 
 -- by names the first is told to be a copy, by the slots before it
 by_names : effects_of (record (of_routes 0) { trace = true; names = true }) [] 0 0 nested (twenty ++ Written (Slot 3 None) ∷ []) ≡

@@ -130,12 +130,12 @@ come-drained watch now new told waiting = record { told = omega (arith, told); w
 
 -- few writes are told
 pub few-number : (begun now : Managed) (watch : Watching) (count count_now : Count) (events_begun events_now : List Action) (flight : Flight) (spare : ℕ)
-    → (making : IsMaking begun now watch count count_now events_begun events_now flight spare) → IfSome begun.held (λ held. count.told + length (writes_in held.actions) ≤ 2 ^ 40)
-    → count_now.told + length (writes_in making.some.left) ≤ 2 ^ 40
+    → (making : IsMaking begun now watch count count_now events_begun events_now flight spare) → IfSome begun.held (λ held. count.told + length (writes_in held.actions) ≤ 2 ^ 36)
+    → count_now.told + length (writes_in making.some.left) ≤ 2 ^ 36
 few-number begun now watch count count_now events_begun events_now flight spare making all =
     let was = making.some in
-    let few : count.told + length (writes_in was.held.actions) ≤ 2 ^ 40 =
-    subst (λ held. IfSome held (λ (one : HeldCommit). count.told + length (writes_in one.actions) ≤ 2 ^ 40)) was.held_is all in
+    let few : count.told + length (writes_in was.held.actions) ≤ 2 ^ 36 =
+    subst (λ held. IfSome held (λ (one : HeldCommit). count.told + length (writes_in one.actions) ≤ 2 ^ 36)) was.held_is all in
     let lengths : length (writes_in was.held.actions) ≡ length (writes_in was.made) + length (writes_in was.left) =
     ap (λ actions. length (writes_in actions)) was.whole ∙ ap length (writes_in-append was.made was.left) ∙ length-append (writes_in was.made) (writes_in was.left) in
     let told = making.come.told in
@@ -186,7 +186,7 @@ module _ (begun now new : Managed) (watch : Watching) (count count_now count_new
       wrote-come told waiting = record { told = told; waiting = waiting }
 
       -- and few writes were told before it
-      pub few-written : IfSome begun.held (λ held. count.told + length (writes_in held.actions) ≤ 2 ^ 40) → count_now.told < 2 ^ 40
+      pub few-written : IfSome begun.held (λ held. count.told + length (writes_in held.actions) ≤ 2 ^ 36) → count_now.told < 2 ^ 36
       few-written all =
           let few = few-number begun now watch count count_now events_begun events_now flight spare making all in
           let size : length (writes_in making.some.left) ≡ length (write ∷ writes_in wrote-acts.left) = ap (λ actions. length (writes_in actions)) wrote-acts.is in

@@ -55,7 +55,7 @@ pub puts_from-puts-requires : goal.puts_from-puts-requires
 puts_from-puts-requires c =
     let old = c.args.plan.now.writes in
     let m = moves_since old.moves c.plan_insert-planned.new.plan in
-    let short = c.in_ok-keep_short.ensures in
+    let short = c.in_ok-keep_short.ensures.short in
     let writes = rw c.in_ok-insert.was at c.plan_insert-planned.ensures.writes in
     let first = c.len-first.ensures.count in
     let all : length c.plan_insert-planned.new.plan ≡ length old.moves + length m = ap length c.plan_insert-planned.ensures.plan ∙ length-append old.moves m in
@@ -66,7 +66,7 @@ pub count-requires-clause-few_puts : goal.count-requires-clause-few_puts
 count-requires-clause-few_puts c =
     let old = c.args.plan.now.writes in
     let m = moves_since old.moves c.plan_insert-planned.new.plan in
-    let short = c.in_ok-keep_short.ensures in
+    let short = c.in_ok-keep_short.ensures.short in
     let writes = rw c.in_ok-insert.was at c.plan_insert-planned.ensures.writes in
     let puts : c.puts_from-puts.result ≡ moves_put m = c.puts_from-puts.ensures ∙ ap (λ (n : ℕ). moves_put (drop n c.plan_insert-planned.new.plan)) c.len-first.ensures.count in
     let fewer = puts_few m in

@@ -7,7 +7,7 @@ use Rattle.explain.proofs.script.explain_script.Given as goal
 abbrev pub invariant-rounds : goal.invariant-rounds
 invariant-rounds g l = record {
   wanted : l.explainer.wanted ≡ l.fn.wanted;
-  within : l.lines.before ≤ 16777216;
+  within : l.lines.before ≤ 268435456;
   gives : (pieces : List (List ℕ)) × GivesPieces (g.S.Source.given l.fn.source) (g.S.Source.given l.source) (g.S.Source.left l.fn.source) (g.S.Source.left l.source) pieces
       × (HasEnd pieces → l.lines.over ≡ over.Ended)
       × ((text now : List ℕ) → MayGive text pieces now → IsStanding text l.lines now l.explainer);
@@ -16,4 +16,4 @@ invariant-rounds g l = record {
 }
 
 abbrev pub decreases-rounds : goal.decreases-rounds
-decreases-rounds g l = 16777216 - l.lines.before
+decreases-rounds g l = 268435456 - l.lines.before

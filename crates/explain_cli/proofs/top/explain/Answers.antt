@@ -18,7 +18,7 @@ pub returns-in-Ok-Router-clause-right : goal.returns-in-Ok-Router-clause-right
 returns-in-Ok-Router-clause-right g c = λ table.
     let h = c.in-Ok-Router in
     let reads = read-own _ (map string_bytes c.args.words.now) h.field-0 c.own_words-own.ensures h.ensures table in
-    absurd (never-router _ h.field-0 h.version h.field-0-is reads)
+    absurd (never-router _ h.field-0 h.wanted h.field-0-is reads)
 
 pub returns-in-Ok-Help-clause-right : goal.returns-in-Ok-Help-clause-right
 returns-in-Ok-Help-clause-right g c = λ table.

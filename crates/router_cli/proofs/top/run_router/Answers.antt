@@ -1,7 +1,7 @@
-use Rattle.std.proofs.Common.{true, ◌∙◌, ◌≤◌, refl, ap, sym, Err, arith}
+use Rattle.std.proofs.Common.{Bool, true, ◌≡◌, ◌∙◌, ◌≤◌, refl, ap, sym, Err}
 use Rattle.script_runs.specs.declared.Status.TheVariants.{Done, Usage}
 use Rattle.report_lines.specs.Text.{usage_line}
-use Rattle.router.specs.Routing.{Routing}
+use Rattle.router.specs.Routing.{Routing, progress_of}
 use Rattle.router_cli.specs.OwnTexts.{router_help}
 use Rattle.router_cli.specs.CommandLine.{Routes}
 use Rattle.router_cli.proofs.TopCall.{blank, ends-told, hitless-job, memory-carried, memory-causes, memory-ends, nothing-read, promised-none, told-alone}
@@ -9,37 +9,41 @@ use Rattle.router_cli.proofs.top.run_router.Goals as goal
 
 -- ---- a script
 
+-- the router that was asked for
+asked-router : {begun one router : Routing} (large : Bool) → one ≡ begun → router ≡ record one { large = large } → router ≡ record begun { large = large }
+asked-router large is with = with ∙ ap (λ (some : Routing). record some { large = large }) is
+
 pub run_router_script-requires-clause-slots : goal.run_router_script-requires-clause-slots
 run_router_script-requires-clause-slots g c =
-    let range = rw c.in-Ok-Script.field-0-is at c.in-Ok-Script.ensures.within in
-    let most = range.1 in
-    let list = c.requires.slots.0 in
-    let routes = c.requires.slots.1 in
-    let first : c.in-Ok-Script.slots ≤ g.D.SplitDevice.slot_count c.args.list.now = omega (arith, most, list) in
-    let second : c.in-Ok-Script.slots ≤ g.D.SplitDevice.slot_count c.args.routes.now = omega (arith, most, routes) in
-    rw c.in-Ok.ensures.begun (record { listed = first; routed = second })
+    let asked = rw c.in-Ok-Script.field-0-is at c.in-Ok-Script.ensures.asked in
+    let first : c.in-Ok-Script.slots ≤ g.D.SplitDevice.slot_count c.args.list.now = rw asked at c.requires.list_slots in
+    let second : c.in-Ok-Script.slots ≤ g.D.SplitDevice.slot_count c.args.routes.now = rw asked at c.requires.route_slots in
+    rw (asked-router c.in-Ok-Script.large c.in-Ok.ensures.begun c.with_large-router.ensures) (record { listed = first; routed = second })
+
+pub run_router_script-requires-clause-begun : goal.run_router_script-requires-clause-begun
+run_router_script-requires-clause-begun g c = ap progress_of c.with_large-router.ensures ∙ c.in-Ok.ensures.starts
 
 pub run_router_script-requires-clause-idle : goal.run_router_script-requires-clause-idle
-run_router_script-requires-clause-idle g c = rw c.in-Ok.ensures.begun (record { listed = refl; routed = refl })
+run_router_script-requires-clause-idle g c = rw (asked-router c.in-Ok-Script.large c.in-Ok.ensures.begun c.with_large-router.ensures) (record { listed = refl; routed = refl })
 
 pub run_router_script-requires-clause-whole : goal.run_router_script-requires-clause-whole
-run_router_script-requires-clause-whole g c = ap (λ (router : Routing). router.broken) c.in-Ok.ensures.begun
+run_router_script-requires-clause-whole g c = ap (λ (router : Routing). router.broken) (asked-router c.in-Ok-Script.large c.in-Ok.ensures.begun c.with_large-router.ensures)
 
 pub returns-in-Ok-clause-carried_out : goal.returns-in-Ok-clause-carried_out
 returns-in-Ok-clause-carried_out g c =
     let asked = rw c.in-Ok-Script.field-0-is at c.in-Ok-Script.ensures.asked in
-    rw (asked ∙ ap (λ (router : Routing). Routes router.version router.listed.whole.slots router.listed.whole.mode router.listed.whole.placement router.trace) (sym c.in-Ok.ensures.begun)) c.run_router_script.ensures.carried_out
+    rw (asked ∙ ap (λ (router : Routing). Routes router.version router.listed.whole.slots router.listed.whole.mode router.listed.whole.placement router.trace router.large) (sym (asked-router c.in-Ok-Script.large c.in-Ok.ensures.begun c.with_large-router.ensures))) c.run_router_script.ensures.carried_out
 
 pub returns-in-Ok-clause-hitless : goal.returns-in-Ok-clause-hitless
 returns-in-Ok-clause-hitless g c =
     let asked = rw c.in-Ok-Script.field-0-is at c.in-Ok-Script.ensures.asked in
-    rw (asked ∙ ap (λ (router : Routing). Routes router.version router.listed.whole.slots router.listed.whole.mode router.listed.whole.placement router.trace) (sym c.in-Ok.ensures.begun)) c.run_router_script.ensures.hitless
+    rw (asked ∙ ap (λ (router : Routing). Routes router.version router.listed.whole.slots router.listed.whole.mode router.listed.whole.placement router.trace router.large) (sym (asked-router c.in-Ok-Script.large c.in-Ok.ensures.begun c.with_large-router.ensures))) c.run_router_script.ensures.hitless
 
 pub returns-in-Ok-clause-given : goal.returns-in-Ok-clause-given
 returns-in-Ok-clause-given g c = λ which.
     let asked = rw c.in-Ok-Script.field-0-is at c.in-Ok-Script.ensures.asked in
     let given = c.run_router_script.ensures.given which in
-    rw (asked ∙ ap (λ (router : Routing). Routes router.version router.listed.whole.slots router.listed.whole.mode router.listed.whole.placement router.trace) (sym c.in-Ok.ensures.begun)) (
+    rw (asked ∙ ap (λ (router : Routing). Routes router.version router.listed.whole.slots router.listed.whole.mode router.listed.whole.placement router.trace router.large) (sym (asked-router c.in-Ok-Script.large c.in-Ok.ensures.begun c.with_large-router.ensures))) (
       given.0,
       given.1,
       λ left now may.
@@ -50,12 +54,12 @@ returns-in-Ok-clause-given g c = λ which.
 pub returns-in-Ok-clause-in_time : goal.returns-in-Ok-clause-in_time
 returns-in-Ok-clause-in_time g c =
     let asked = rw c.in-Ok-Script.field-0-is at c.in-Ok-Script.ensures.asked in
-    rw (asked ∙ ap (λ (router : Routing). Routes router.version router.listed.whole.slots router.listed.whole.mode router.listed.whole.placement router.trace) (sym c.in-Ok.ensures.begun)) c.run_router_script.ensures.in_time
+    rw (asked ∙ ap (λ (router : Routing). Routes router.version router.listed.whole.slots router.listed.whole.mode router.listed.whole.placement router.trace router.large) (sym (asked-router c.in-Ok-Script.large c.in-Ok.ensures.begun c.with_large-router.ensures))) c.run_router_script.ensures.in_time
 
 pub returns-in-Ok-clause-causes : goal.returns-in-Ok-clause-causes
 returns-in-Ok-clause-causes g c =
     let asked = rw c.in-Ok-Script.field-0-is at c.in-Ok-Script.ensures.asked in
-    rw (asked ∙ ap (λ (router : Routing). Routes router.version router.listed.whole.slots router.listed.whole.mode router.listed.whole.placement router.trace) (sym c.in-Ok.ensures.begun)) c.run_router_script.ensures.causes
+    rw (asked ∙ ap (λ (router : Routing). Routes router.version router.listed.whole.slots router.listed.whole.mode router.listed.whole.placement router.trace router.large) (sym (asked-router c.in-Ok-Script.large c.in-Ok.ensures.begun c.with_large-router.ensures))) c.run_router_script.ensures.causes
 
 -- ---- no memory for it
 

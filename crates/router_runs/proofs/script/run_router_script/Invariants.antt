@@ -32,4 +32,4 @@ invariant-acts g l = record {
 }
 
 abbrev pub decreases-acts : goal.decreases-acts
-decreases-acts g l = 16777216 - l.lines.before
+decreases-acts g l = 268435456 - l.lines.before

@@ -15,7 +15,7 @@ returns-clause-scan c =
     let from : c.args.scanned ≤ c.min-most.result = omega arith in
     let there : c.min-most.result ≤ length c.args.held.now = omega arith in
     let short : c.min-most.result ≤ 512 = omega arith in
-    let within : c.args.before + c.min-most.result ≤ 16777216 = omega arith in
+    let within : c.args.before + c.min-most.result ≤ 268435456 = omega arith in
     rw c.of_line.ensures (scan-front c.args.held.now c.args.scanned c.min-most.result c.args.before c.requires from there short within)
 
 pub returns-clause-other : goal.returns-clause-other

@@ -12,4 +12,5 @@ returns-clause-app c =
     let depth = c.in_ok-arg-4.ensures.shape c.depth_arg.ensures.global ∙ ap₂ with_rule trace c.depth_arg.ensures.rule in
     let json = c.in_ok-arg-5.ensures.shape c.json_arg.ensures.global ∙ ap₂ with_rule depth c.json_arg.ensures.rule in
     let names = c.in_ok-arg-6.ensures.shape c.names_arg.ensures.global ∙ ap₂ with_rule json c.names_arg.ensures.rule in
-    c.in_ok-arg-7.ensures.shape c.removals_arg.ensures.global ∙ ap₂ with_rule names c.removals_arg.ensures.rule
+    let removals = c.in_ok-arg-7.ensures.shape c.removals_arg.ensures.global ∙ ap₂ with_rule names c.removals_arg.ensures.rule in
+    c.in_ok-arg-8.ensures.shape c.large_arg.ensures.global ∙ ap₂ with_rule removals c.large_arg.ensures.rule

@@ -1,4 +1,4 @@
-use Rattle.std.proofs.Common.{Bool, true, false, ◌≡◌, ◌≤◌, refl, ap, sym, ◌∙◌, Err, arith}
+use Rattle.std.proofs.Common.{Bool, true, false, ◌≡◌, ◌≤◌, refl, ap, sym, ◌∙◌, Err}
 use Rattle.script_runs.specs.declared.Status.TheVariants.{Done, Usage}
 use Rattle.replay.specs.Running.{Running, progress_of, setting_of}
 use Rattle.report_lines.specs.Text.{usage_line}
@@ -23,41 +23,47 @@ use Rattle.tcam_cli.proofs.top.run.Goals as goal
 pub run_script-requires-clause-begun : goal.run_script-requires-clause-begun
 run_script-requires-clause-begun g c =
     let slots = (g.D.Writable.view c.args.device.now).slots in
-    let range = rw c.in-Ok-Script.field-0-is at c.in-Ok-Script.ensures.within in
-    let within : c.in-Ok-Script.slots ≤ slots = omega (arith, range.1) in
-    ap (progress_of slots) c.with_removals_first.ensures ∙ ap (progress_of slots) c.in-Ok.ensures ∙ begins c.in-Ok-Script.mode c.in-Ok-Script.placement c.in-Ok-Script.family c.in-Ok-Script.slots slots c.in-Ok-Script.trace c.in-Ok-Script.depth c.in-Ok-Script.json c.in-Ok-Script.names within
+    let asked = rw c.in-Ok-Script.field-0-is at c.in-Ok-Script.ensures.asked in
+    let within : c.in-Ok-Script.slots ≤ slots = rw asked at c.requires.slots in
+    ap (progress_of slots) c.with_large-run.ensures ∙ ap (progress_of slots) c.with_removals_first.ensures ∙ ap (progress_of slots) c.in-Ok.ensures ∙ begins c.in-Ok-Script.mode c.in-Ok-Script.placement c.in-Ok-Script.family c.in-Ok-Script.slots slots c.in-Ok-Script.trace c.in-Ok-Script.depth c.in-Ok-Script.json c.in-Ok-Script.names within
 
 -- the run that was asked for
-asked-run : {begun one run : Running} (parts : Bool) → one ≡ begun → run ≡ record one { parts = parts } → run ≡ record begun { parts = parts }
-asked-run parts is with = with ∙ ap (λ (some : Running). record some { parts = parts }) is
+asked-run : {begun one other run : Running} (parts large : Bool) → one ≡ begun → other ≡ record one { parts = parts } → run ≡ record other { large = large } → run ≡ record begun { parts = parts; large = large }
+asked-run parts large is first second = second ∙ ap (λ (some : Running). record some { large = large }) (first ∙ ap (λ (some : Running). record some { parts = parts }) is)
+
+pub run_script-requires-clause-slots : goal.run_script-requires-clause-slots
+run_script-requires-clause-slots g c =
+    let asked = rw c.in-Ok-Script.field-0-is at c.in-Ok-Script.ensures.asked in
+    let within : c.in-Ok-Script.slots ≤ (g.D.Writable.view c.args.device.now).slots = rw asked at c.requires.slots in
+    rw (asked-run c.in-Ok-Script.parts c.in-Ok-Script.large c.in-Ok.ensures c.with_removals_first.ensures c.with_large-run.ensures) within
 
 pub returns-in-Ok-clause-carried_out : goal.returns-in-Ok-clause-carried_out
 returns-in-Ok-clause-carried_out g c =
     let asked = rw c.in-Ok-Script.field-0-is at c.in-Ok-Script.ensures.asked in
-    rw (asked ∙ ap (λ (run : Running). Reads (setting_of run)) (sym (asked-run c.in-Ok-Script.parts c.in-Ok.ensures c.with_removals_first.ensures))) c.run_script.ensures.carried_out
+    rw (asked ∙ ap (λ (run : Running). Reads (setting_of run)) (sym (asked-run c.in-Ok-Script.parts c.in-Ok-Script.large c.in-Ok.ensures c.with_removals_first.ensures c.with_large-run.ensures))) c.run_script.ensures.carried_out
 
 pub returns-in-Ok-clause-hitless : goal.returns-in-Ok-clause-hitless
 returns-in-Ok-clause-hitless g c =
     let asked = rw c.in-Ok-Script.field-0-is at c.in-Ok-Script.ensures.asked in
     let carried = c.run_script.ensures.carried_out in
-    rw (asked ∙ ap (λ (run : Running). Reads (setting_of run)) (sym (asked-run c.in-Ok-Script.parts c.in-Ok.ensures c.with_removals_first.ensures)))
-    (hitless-job (Reads (setting_of c.with_removals_first.result)) (g.D.Writable.view c.args.device.now).slots c.run_script.result (g.S.Source.left c.args.source.now) (g.S.Source.left c.run_script.new.source)
+    rw (asked ∙ ap (λ (run : Running). Reads (setting_of run)) (sym (asked-run c.in-Ok-Script.parts c.in-Ok-Script.large c.in-Ok.ensures c.with_removals_first.ensures c.with_large-run.ensures)))
+    (hitless-job (Reads (setting_of c.with_large-run.result)) (g.D.Writable.view c.args.device.now).slots c.run_script.result (g.S.Source.left c.args.source.now) (g.S.Source.left c.run_script.new.source)
     (g.K.Sink.taken c.args.sink.now) (g.K.Sink.taken c.run_script.new.sink) (g.D.Writable.view c.run_script.new.device).events carried)
 
 pub returns-in-Ok-clause-given : goal.returns-in-Ok-clause-given
 returns-in-Ok-clause-given g c = λ which.
     let asked = rw c.in-Ok-Script.field-0-is at c.in-Ok-Script.ensures.asked in
-    rw (asked ∙ ap (λ (run : Running). Reads (setting_of run)) (sym (asked-run c.in-Ok-Script.parts c.in-Ok.ensures c.with_removals_first.ensures))) (c.run_script.ensures.given which)
+    rw (asked ∙ ap (λ (run : Running). Reads (setting_of run)) (sym (asked-run c.in-Ok-Script.parts c.in-Ok-Script.large c.in-Ok.ensures c.with_removals_first.ensures c.with_large-run.ensures))) (c.run_script.ensures.given which)
 
 pub returns-in-Ok-clause-in_time : goal.returns-in-Ok-clause-in_time
 returns-in-Ok-clause-in_time g c =
     let asked = rw c.in-Ok-Script.field-0-is at c.in-Ok-Script.ensures.asked in
-    rw (asked ∙ ap (λ (run : Running). Reads (setting_of run)) (sym (asked-run c.in-Ok-Script.parts c.in-Ok.ensures c.with_removals_first.ensures))) c.run_script.ensures.in_time
+    rw (asked ∙ ap (λ (run : Running). Reads (setting_of run)) (sym (asked-run c.in-Ok-Script.parts c.in-Ok-Script.large c.in-Ok.ensures c.with_removals_first.ensures c.with_large-run.ensures))) c.run_script.ensures.in_time
 
 pub returns-in-Ok-clause-causes : goal.returns-in-Ok-clause-causes
 returns-in-Ok-clause-causes g c =
     let asked = rw c.in-Ok-Script.field-0-is at c.in-Ok-Script.ensures.asked in
-    rw (asked ∙ ap (λ (run : Running). Reads (setting_of run)) (sym (asked-run c.in-Ok-Script.parts c.in-Ok.ensures c.with_removals_first.ensures))) c.run_script.ensures.causes
+    rw (asked ∙ ap (λ (run : Running). Reads (setting_of run)) (sym (asked-run c.in-Ok-Script.parts c.in-Ok-Script.large c.in-Ok.ensures c.with_removals_first.ensures c.with_large-run.ensures))) c.run_script.ensures.causes
 
 pub returns-in-Err-clause-carried_out : goal.returns-in-Err-clause-carried_out
 returns-in-Err-clause-carried_out g c = memory-carried _ _ _ _ _ c.requires.blank
@@ -137,11 +143,15 @@ returns-in-Err-Memory-clause-in_time g c = nothing-read _ _ _ _ _ _ (λ e. cc)
 pub run_made-requires-clause-begun : goal.run_made-requires-clause-begun
 run_made-requires-clause-begun g c =
     let slots = (g.D.Writable.view c.args.device.now).slots in
-    let numbers = rw c.in-Ok-Made.field-0-is at c.in-Ok-Made.ensures.within in
-    let most = numbers.script_slots in
-    let device = c.requires.slots in
-    let within : c.in-Ok-Made.slots ≤ slots = omega (arith, most, device) in
+    let asked = rw c.in-Ok-Made.field-0-is at c.in-Ok-Made.ensures.asked in
+    let within : c.in-Ok-Made.slots ≤ slots = rw asked at c.requires.slots in
     ap (progress_of slots) c.in-Ok-new.ensures ∙ begins c.in-Ok-Made.mode c.in-Ok-Made.placement Acl c.in-Ok-Made.slots slots false 0 false false within
+
+pub run_made-requires-clause-slots : goal.run_made-requires-clause-slots
+run_made-requires-clause-slots g c =
+    let asked = rw c.in-Ok-Made.field-0-is at c.in-Ok-Made.ensures.asked in
+    let within : c.in-Ok-Made.slots ≤ (g.D.Writable.view c.args.device.now).slots = rw asked at c.requires.slots in
+    rw c.in-Ok-new.ensures within
 
 pub returns-in-Ok-new-clause-carried_out : goal.returns-in-Ok-new-clause-carried_out
 returns-in-Ok-new-clause-carried_out g c =

@@ -67,7 +67,8 @@ pub unreachable-requires : goal.unreachable-requires
 unreachable-requires g c =
     let most = c.requires.most_rules in
     let why = c.in-Err.field-0 in
-    let none = made-fits (2 * c.args.rules) _ _ c.in-Some.made _ _ _ (Err why) c.in-Some.ensures.next c.act_of_made.ensures.act c.acts.invariant.room (omega (arith, most)) (c.in-Err.ensures.limit c.acts.invariant.idle) in
+    let usual = ap (λ (s : Setting). s.large) c.acts.invariant.setting ∙ c.requires.usual in
+    let none = made-fits (2 * c.args.rules) _ _ c.in-Some.made _ _ _ (Err why) _ c.in-Some.ensures.next c.act_of_made.ensures.act c.acts.invariant.room (omega (arith, most)) usual (c.in-Err.ensures.limit c.acts.invariant.idle) in
     search rules
 
 pub acts-preserved : goal.acts-preserved
@@ -113,6 +114,7 @@ returns-in_default-clause-leaves g c =
 pub returns-in-Err-Stopped-clause-carried_out : goal.returns-in-Err-Stopped-clause-carried_out
 returns-in-Err-Stopped-clause-carried_out g c = λ which source.
     let i = c.acts.invariant in
+    let large : c.acts.run.large ≡ c.args.run.now.large = ap (λ (s : Setting). s.large) i.setting in
     let why = c.in-Err-Stopped.why in
     let next = c.in-Some.ensures.next in
     let slots = (g.D.Writable.view c.acts.device).slots in
@@ -124,7 +126,7 @@ returns-in-Err-Stopped-clause-carried_out g c = λ which source.
     rw (← c.act_of_made.ensures.act) (stops slots c.acts.run c.act_of_made.result c.apply.new.self why (g.D.Writable.view c.acts.device).events (g.D.Writable.view c.apply.new.device).events
     (counted which (g.K.Sink.taken c.acts.sink) (g.K.Sink.accepted c.acts.sink)) (counted which (g.K.Sink.taken c.apply.new.sink) (g.K.Sink.accepted c.apply.new.sink))
     (comes-one slots c.acts.run c.act_of_made.result c.apply.new.self (Err (Stopped why)) _ _ _ _ (in-one-part (setting_of c.acts.run) (progress_of slots c.acts.run) c.act_of_made.result in_one) (rw c.in-Err-Stopped.field-0-is at (c.in-Err-Stopped.ensures.acts which)))) in
-    rw (c.status_of_fault.ensures.status, c.in-Err-Stopped.field-0-is, ← i.setting, ← i.leaves.slots)
+    rw (c.status_of_fault.ensures.status, c.in-Err-Stopped.field-0-is, ← i.setting, ← large, ← i.leaves.slots)
     (made-stopped (setting_of c.acts.run) slots c.args.seed c.args.rules c.args.batches c.next.new.self c.in-Some.made (progress_of slots c.acts.run) _ _ _ _ _ why here is source)
 
 pub returns-in-Err-Stopped-clause-leaves : goal.returns-in-Err-Stopped-clause-leaves

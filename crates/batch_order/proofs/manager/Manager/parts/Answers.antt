@@ -24,9 +24,9 @@ parts_of_all-requires c =
     let said : is_unwritten (view_of i.placement i.translation i.rules i.live i.arrangement i.held).held ≡ true = rw (← c.self.view_is) at c.requires.unwritten in
     let here = subst (λ (h : Option Held). is_unwritten (view_of i.placement i.translation i.rules i.live i.arrangement h).held ≡ true) was said in
     let one = unwritten_parts held (sym (unwritten_is i.translation i.rules i.live i.arrangement held managed) ∙ here) in
-    let fewer : length (writes_left (view_of i.placement i.translation i.rules i.live i.arrangement i.held).held) ≤ 2 ^ 39 = rw (← c.self.view_is) at c.requires.few in
-    let few = subst (λ (h : Option Held). length (writes_left (view_of i.placement i.translation i.rules i.live i.arrangement h).held) ≤ 2 ^ 39) was fewer in
-    let all : length (held_writes i.live.entries held) ≤ 2 ^ 39 = subst (λ (some : List Write). length some ≤ 2 ^ 39) (left_whole i.translation i.rules i.live i.arrangement held one) few in
+    let fewer : length (writes_left (view_of i.placement i.translation i.rules i.live i.arrangement i.held).held) ≤ 2 ^ 35 = rw (← c.self.view_is) at c.requires.few in
+    let few = subst (λ (h : Option Held). length (writes_left (view_of i.placement i.translation i.rules i.live i.arrangement h).held) ≤ 2 ^ 35) was fewer in
+    let all : length (held_writes i.live.entries held) ≤ 2 ^ 35 = subst (λ (some : List Write). length some ≤ 2 ^ 35) (left_whole i.translation i.rules i.live i.arrangement held one) few in
     let size : length (held_writes i.live.entries held) ≡ length (all_writes held.writes) = held_size i.live.entries held in
     let undo : length (as_writes i.live.entries held.rewrites.items (all_undo held.undo)) ≡ length (held_writes i.live.entries held) =
     ap length (managed.carried.way_back one.prepared).undo_is ∙ length-restorings (settled_state i.translation i.live.entries i.arrangement) (held_writes i.live.entries held) in

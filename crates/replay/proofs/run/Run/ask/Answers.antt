@@ -7,5 +7,5 @@ use Rattle.replay.proofs.run.Run.ask.Goals as goal
 
 pub invariant_of-self : goal.invariant_of-self
 invariant_of-self c =
-    run-asked c.ask.result _ c.args.request c.ask.new.batch c.ask.new.self c.self.invariant (subst (λ (r : Running). r.manager.held ≡ None) (sym c.self.view_is) c.requires.idle)
-    (subst (λ (r : Running). IsChangeOf r.family (strict_form c.args.request)) (sym c.self.view_is) c.requires.change) c.ask.ensures.asked c.ask.ensures.same
+    run-asked c.ask_within.result _ c.args.request c.ask_within.new.batch c.ask_within.new.self c.self.invariant (subst (λ (r : Running). r.manager.held ≡ None) (sym c.self.view_is) c.requires.idle)
+    (subst (λ (r : Running). IsChangeOf r.family (strict_form c.args.request)) (sym c.self.view_is) c.requires.change) c.ask_within.ensures.asked c.ask_within.ensures.same

@@ -6,5 +6,5 @@ use Rattle.replay.proofs.run.Run.push.Goals as goal
 
 pub invariant_of-self : goal.invariant_of-self
 invariant_of-self c =
-    run-pushed c.push.result _ c.args.command c.push.new.batch c.push.new.self c.self.invariant (subst (λ (r : Running). r.manager.held ≡ None) (sym c.self.view_is) c.requires.idle)
-    (subst (λ (r : Running). IsChangeOf r.family c.args.command) (sym c.self.view_is) c.requires.change) c.push.ensures.pushed c.push.ensures.same
+    run-pushed c.push_within.result _ c.args.command c.push_within.new.batch c.push_within.new.self c.self.invariant (subst (λ (r : Running). r.manager.held ≡ None) (sym c.self.view_is) c.requires.idle)
+    (subst (λ (r : Running). IsChangeOf r.family c.args.command) (sym c.self.view_is) c.requires.change) c.push_within.ensures.pushed c.push_within.ensures.same
